@@ -1,0 +1,4 @@
+// Arithmetic modulo a whole number.
+pub fn zero() -> u32 {
+    0
+}
