@@ -40,7 +40,7 @@ modulo p =
       equal = λ a b. eqb a b;
       reduced = λ a. ltb a p;
       order = p;
-      element = λ i. i
+      element = λ i. i;
     }
 
 -- A modulus is whole if a product of two numbers below it is 0 modulo p only where one of the two is 0.
