@@ -1,0 +1,5 @@
+pub mod Claims
+pub mod Sumcheck
+pub mod Argument
+pub mod Honest
+pub mod Promise

@@ -1,0 +1,4 @@
+// Nothing yet.
+pub fn zero() -> u32 {
+    0
+}
