@@ -5,3 +5,4 @@ pub mod Modulo
 pub mod Truth
 pub mod Field
 pub mod FieldModulo
+pub mod Counting
