@@ -5,11 +5,11 @@ use mathlib.Core.List.{List, [], _∷_, _++_}
 use Prim.Native.Nat.{ℕ, zero, suc, _/_, min}
 use native.Mathlib.Nat.{suc-min-suc, suc-ne-zero}
 use native.Mathlib.Omega.{arith}
-use lib.ListN.{length, take, drop, getD, length-append, length-take, length-drop}
-use lib.Seq.{take-nil, drop-nil, take-at, drop-at}
+use lib.ListN.{length, take, drop, length-append, length-take, length-drop}
+use lib.Seq.{take-at, drop-at}
 use Rattle.arithmetic.specs.Numbers.{Numbers}
 use Rattle.arithmetic.proofs.Ring.{Ring, reduce-reduce}
-use Rattle.arithmetic.proofs.Solver.{Exp, var, con, _:+_, _:*_, _:-_, red, solve}
+use Rattle.arithmetic.proofs.Solver.{var, con, _:+_, _:*_, _:-_, red, solve}
 use Rattle.tables.specs.Multilinear.{blend, fixFirst, mle}
 use Rattle.tables.specs.Theorems.{combine}
 
