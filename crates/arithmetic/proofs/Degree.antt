@@ -1,9 +1,10 @@
 -- Functions of degree below n, said without coefficients: a function of degree below n + 1 differs from its
 -- value at r by x - r times a function of degree below n. Sums and products keep this, and division is at hand.
 use mathlib.Core.Path.{_≡_, refl, sym, ap, ap₂, subst, fun-ext, _∙_}
-use mathlib.Core.List.{List, [], _∷_}
+use mathlib.Core.List.{[], _∷_}
 use Prim.Native.Nat.{ℕ, zero, suc, _+_}
 use native.Mathlib.Nat.{suc-add}
+use native.Mathlib.Numerals.{add-one}
 use native.Mathlib.Nat.{zero-add as nat-zero-add}
 use Rattle.arithmetic.specs.Numbers.{Numbers}
 use Rattle.arithmetic.proofs.Ring.{Ring, zero-mul, reduce-reduce, reduce-add, reduce-mul, reduce-sub, sub-minus, minus}
@@ -120,3 +121,17 @@ module _ {K : Type 0} {N : Numbers K} (R : Ring N) where
   deg-variable =
       deg-affine (λ x. reduce x) (reduce (nat 1)) (λ x. reduce-reduce R x)
       (λ x r. solve R (x ∷ r ∷ []) (red (var 0) :+ var 1 :* red (con 1)) (red (var 1) :+ var 0 :* red (con 1)) refl) (reduce-reduce R (nat 1))
+
+  -- one factor more, one degree more
+  pub deg-next : (n : ℕ) (i k a : K) (h : K → K) → reduce a ≡ a → Deg N n h → Deg N (suc n) (λ x. add a (mul (mul (sub x i) k) (h x)))
+  deg-next n i k a h e d =
+      subst (λ m. Deg N m (λ x. add a (mul (mul (sub x i) k) (h x)))) (add-one n)
+      (deg-add (n + 1) (λ x. a) (λ x. mul (mul (sub x i) k) (h x)) (deg-raise n 1 (λ x. a) (deg-const a e))
+      (deg-same (n + 1) (λ x. mul (h x) (mul (sub x i) k)) (λ x. mul (mul (sub x i) k) (h x)) (λ x. R .mul-comm (h x) (mul (sub x i) k))
+      (deg-mul n 1 h (λ x. mul (sub x i) k) d (deg-shift i k))))
+
+  pub deg-horner : (n : ℕ) (a : K) (h : K → K) → Deg N n h → Deg N (suc n) (λ x. add a (mul x (h x)))
+  deg-horner n a h d =
+      deg-same (suc n) (λ x. add (reduce a) (mul (mul (sub x (nat 0)) (nat 1)) (h x))) (λ x. add a (mul x (h x)))
+      (λ x. solve R (a ∷ x ∷ h x ∷ []) (red (var 0) :+ (var 1 :- con 0) :* con 1 :* var 2) (var 0 :+ var 1 :* var 2) refl)
+      (deg-next n (nat 0) (nat 1) (reduce a) h (reduce-reduce R a) d)

@@ -10,3 +10,6 @@ pub mod FieldModulo
 pub mod Counting
 pub mod Degree
 pub mod Roots
+pub mod Interpolation
+pub mod Agreement
+pub mod Theorems
