@@ -1,0 +1,4 @@
+pub mod Ring
+pub mod Polynomial
+pub mod Solver
+pub mod Modulo
