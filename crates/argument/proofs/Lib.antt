@@ -1,1 +1,2 @@
 pub mod OnlyMessages
+pub mod Copies
