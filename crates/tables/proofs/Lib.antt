@@ -1,0 +1,3 @@
+pub mod Corners
+pub mod Extension
+pub mod Linear
