@@ -13,7 +13,7 @@ module _ {K : Type 0} {N : Numbers K} (R : Ring N) where
 
   abbrev pub Degs : ℕ → ℕ → (List K → K) → Type 0
   Degs d zero G = Unit {0}
-  Degs d (suc n) G = ((z : List K) → Deg R d (λ t. G (t ∷ z))) × ((t : K) → Degs d n (λ z. G (t ∷ z)))
+  Degs d (suc n) G = ((z : List K) → Deg N d (λ t. G (t ∷ z))) × ((t : K) → Degs d n (λ z. G (t ∷ z)))
 
   pub degs-same : (d n : ℕ) (G H : List K → K) → ((z : List K) → G z ≡ H z) → Degs d n G → Degs d n H
   degs-same d zero G H e p = tt
@@ -30,7 +30,7 @@ module _ {K : Type 0} {N : Numbers K} (R : Ring N) where
   )
 
   -- ---- summed over other variables
-  pub deg-sumCorners : (d m : ℕ) (H : K → List K → K) → ((z : List K) → Deg R d (λ t. H t z)) → Deg R d (λ t. sumCorners N m (H t))
+  pub deg-sumCorners : (d m : ℕ) (H : K → List K → K) → ((z : List K) → Deg N d (λ t. H t z)) → Deg N d (λ t. sumCorners N m (H t))
   unfolding sumCorners
   deg-sumCorners d zero H p = p []
   deg-sumCorners d (suc m) H p =
@@ -47,7 +47,7 @@ module _ {K : Type 0} {N : Numbers K} (R : Ring N) where
   -- ---- round by round
   abbrev pub Smooth : ℕ → (List K → K) → Type 0
   Smooth zero G = Unit {0}
-  Smooth (suc n) G = Deg R 4 (λ t. sumCorners N n (λ z. G (t ∷ z))) × ((t : K) → Smooth n (λ z. G (t ∷ z)))
+  Smooth (suc n) G = Deg N 4 (λ t. sumCorners N n (λ z. G (t ∷ z))) × ((t : K) → Smooth n (λ z. G (t ∷ z)))
 
   pub smooth : (n : ℕ) (G : List K → K) → Degs 4 n G → Smooth n G
   smooth zero G p = tt
