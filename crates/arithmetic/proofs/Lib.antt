@@ -6,3 +6,8 @@ pub mod Truth
 pub mod Field
 pub mod FieldModulo
 pub mod Counting
+pub mod Degree
+pub mod Roots
+pub mod Interpolation
+pub mod Agreement
+pub mod Theorems
