@@ -8,7 +8,7 @@ use lib.ListN.{length}
 use Rattle.arithmetic.specs.Numbers.{Numbers}
 use Rattle.arithmetic.proofs.Ring.{Ring, reduce-add, reduce-mul}
 use Rattle.arithmetic.proofs.Solver.{Exp, var, con, _:+_, _:*_, _:-_, red, solve}
-use Rattle.argument.proofs.Assumed.{Deg, deg-add, deg-mul, deg-line, deg-raise}
+use Rattle.arithmetic.proofs.Degree.{Deg, deg-add, deg-mul, deg-line, deg-raise}
 use Rattle.tables.specs.Multilinear.{mle, eqPoly, bitsOf, sumCorners}
 use Rattle.tables.proofs.Extension.{reduce-mle}
 use Rattle.tables.proofs.Linear.{Lin, lin-const, lin-add, lin-mul-l, lin-mul-r, lin-front, lin-back, lin-mle, lin-eqPoly}

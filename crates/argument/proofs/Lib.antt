@@ -1,2 +1,7 @@
 pub mod OnlyMessages
 pub mod Copies
+pub mod Gates
+pub mod Layer
+pub mod Smooth
+pub mod Sumcheck
+pub mod Degree

@@ -5,7 +5,7 @@ use mathlib.Core.List.{List, [], _∷_}
 use Prim.Native.Nat.{ℕ, zero, suc}
 use Rattle.arithmetic.specs.Numbers.{Numbers}
 use Rattle.arithmetic.proofs.Ring.{Ring}
-use Rattle.argument.proofs.Assumed.{Deg, deg-add, deg-same}
+use Rattle.arithmetic.proofs.Degree.{Deg, deg-add, deg-same}
 use Rattle.tables.specs.Multilinear.{sumCorners}
 
 module _ {K : Type 0} {N : Numbers K} (R : Ring N) where

@@ -15,7 +15,8 @@ use Rattle.arithmetic.specs.Cubic.{interpolate}
 use Rattle.arithmetic.proofs.Ring.{Ring}
 use Rattle.arithmetic.proofs.Field.{Field, equal-false, equal-yes}
 use Rattle.arithmetic.proofs.Counting.{Row, Coin, sumRows-equal, sumRows-zero, step}
-use Rattle.argument.proofs.Assumed.{Deg, agree, cubic, four-of}
+use Rattle.arithmetic.proofs.Truth.{path-of-T, T-of-path}
+use Rattle.arithmetic.proofs.Agreement.{agree, cubic, values-reduced}
 use Rattle.tables.specs.Multilinear.{sumCorners}
 use Rattle.argument.specs.Sumcheck.{Prover, after, wellFormed, nth, fourValues, rounds, respond}
 use Rattle.argument.proofs.Smooth.{Smooth}
@@ -68,7 +69,7 @@ module _ {K : Type 0} {N : Numbers K} (F : Field N) where
       (coin-falls (n + m) 3 (3 * n + B) (wellFormed N 4 answer) (equal (add (nth N answer 0) (nth N answer 1)) total)
       (λ c. equal (interpolate N answer c) (interpolate N right c)) (rounds N (suc n) next f total)
       (λ c. rounds N n (λ point. next (c ∷ point)) (after c f) (interpolate N answer c)) (λ c x. refl)
-      (λ w e. agree F answer right (well 4 answer w .0) (well 4 answer w .1) refl (four-of F g (smooth .0))
+      (λ w e. agree F answer right (well 4 answer w .0) refl (T-of-path (allReduced N answer) (well 4 answer w .1)) (values-reduced F g (smooth .0))
       (λ d. wrong (sym (F .equal-true (add (nth N answer 0) (nth N answer 1)) total e) ∙ ap (λ (l : List K). add (nth N l 0) (nth N l 1)) d)))
       (λ w e c coin good. sumcheck n m B (λ z. G (c ∷ z)) (λ point. next (c ∷ point)) (after c f) (interpolate N answer c) (smooth .1 c)
       (λ d. equal-false F (interpolate N answer c) (interpolate N right c) good (d ∙ cubic F g (smooth .0) c))
@@ -86,7 +87,7 @@ module _ {K : Type 0} {N : Numbers K} (F : Field N) where
       let g : K → K = λ t. sumCorners N n (λ z. G (t ∷ z)) in
       let ys : List K = fourValues N g in
       and-from (wellFormed N 4 ys) (equal (add (g (nat 0)) (g (nat 1))) total && rounds N n (λ point. next (r ∷ point)) (after r (respond N (suc n) G later)) (interpolate N ys r) coins)
-      (four-of F g (smooth .0))
+      (path-of-T (allReduced N ys) (values-reduced F g (smooth .0)))
       (and-from (equal (add (g (nat 0)) (g (nat 1))) total) (rounds N n (λ point. next (r ∷ point)) (after r (respond N (suc n) G later)) (interpolate N ys r) coins)
       (equal-yes F (add (g (nat 0)) (g (nat 1))) total (sym right))
       (answered n m (λ z. G (r ∷ z)) (λ point. next (r ∷ point)) (λ z. later (r ∷ z)) (interpolate N ys r) (smooth .1 r)
