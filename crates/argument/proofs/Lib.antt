@@ -5,3 +5,4 @@ pub mod Layer
 pub mod Smooth
 pub mod Sumcheck
 pub mod Degree
+pub mod Layers

@@ -49,7 +49,7 @@ module _ {K : Type 0} {N : Numbers K} (F : Field N) where
       all [] r = absurd r
       all (c ∷ x) r = is c x
 
-  well : (n : ℕ) (answer : List K) → wellFormed N n answer ≡ true → (length answer ≡ n) × (allReduced N answer ≡ true)
+  pub well : (n : ℕ) (answer : List K) → wellFormed N n answer ≡ true → (length answer ≡ n) × (allReduced N answer ≡ true)
   well n answer h =
       let p = and-parts (eqb (length answer) n) (allReduced N answer) h in
       (eqb-true (length answer) n (p .0), p .1)
