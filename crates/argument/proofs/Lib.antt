@@ -6,3 +6,6 @@ pub mod Smooth
 pub mod Sumcheck
 pub mod Degree
 pub mod Layers
+pub mod Sound
+pub mod Complete
+pub mod Main
