@@ -9,3 +9,4 @@ pub mod Layers
 pub mod Sound
 pub mod Complete
 pub mod Main
+pub mod Examples
