@@ -3,7 +3,7 @@
 use mathlib.Core.Path.{_≡_, refl, sym, ap, fun-ext, _∙_}
 use mathlib.Core.Bool.{Bool, true, _&&_}
 use mathlib.Core.List.{List, [], _∷_, _++_}
-use Prim.Native.Nat.{ℕ, zero, suc, _+_, _*_, _≤_, _^_}
+use Prim.Native.Nat.{ℕ, suc, _+_, _*_, _^_}
 use native.Mathlib.Nat.{le-of-eq, suc-inj, suc-ne-zero}
 use native.Mathlib.Omega.{arith}
 use lib.Dec.{eqb, leb}
@@ -16,12 +16,12 @@ use Rattle.arithmetic.proofs.Ring.{Ring}
 use Rattle.arithmetic.proofs.Field.{Field, equal-yes}
 use Rattle.tables.specs.Multilinear.{mle, sumCorners}
 use Rattle.tables.proofs.Extension.{reduce-mle}
-use Rattle.circuits.specs.Circuit.{Layer, Circuit, sizeBelow, layersFit, lawful, outputSize, allValues, outputs}
-use Rattle.argument.specs.Claims.{Claim, shareSum, expected}
-use Rattle.argument.specs.Sumcheck.{Prover, after, wellFormed, rounds, respond}
+use Rattle.circuits.specs.Circuit.{Layer, Circuit, sizeBelow, layersFit, lawful, allValues, outputs}
+use Rattle.argument.specs.Claims.{Claim, shareSum}
+use Rattle.argument.specs.Sumcheck.{Prover, wellFormed, rounds, respond}
 use Rattle.argument.specs.Argument.{claimBelow, values, believes, firstClaim, firstCoins, layerCoins, coinsOf, accepts}
 use Rattle.argument.specs.Honest.{twoValues, honestFrom, honest}
-use Rattle.argument.proofs.Copies.{Fits, fits, allValues-inputs}
+use Rattle.argument.proofs.Copies.{fits, allValues-inputs}
 use Rattle.argument.proofs.Gates.{Long}
 use Rattle.argument.proofs.Layer.{summand, layer-identity}
 use Rattle.argument.proofs.Smooth.{smooth}

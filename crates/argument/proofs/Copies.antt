@@ -1,17 +1,17 @@
 -- How the values of a lawful circuit lie: the length of each layer's table, and its copies one after the other.
 -- `Copied` says, halving by halving, that a table holds all copies of a layer over a table of what lies below.
 use mathlib.Core.Path.{_≡_, refl, sym, ap, _∙_}
-use mathlib.Core.Bool.{Bool, true, _&&_}
+use mathlib.Core.Bool.{true, _&&_}
 use mathlib.Core.List.{List, [], _∷_, _++_, append-nil, append-assoc}
-use Prim.Native.Nat.{ℕ, zero, suc, _+_, _-_, _*_, _<_, _≤_, _^_}
+use Prim.Native.Nat.{ℕ, zero, suc, _+_, _*_, _<_, _≤_, _^_}
 use native.Mathlib.Nat.{zero-add, suc-add, zero-mul, suc-mul, add-mul, two-pow-succ, add-comm}
 use native.Mathlib.Omega.{arith}
 use lib.Dec.{eqb, ltb}
-use lib.ListN.{length, take, drop, getD, length-append, length-drop}
+use lib.ListN.{length, take, drop, length-append, length-drop}
 use Rattle.std.proofs.shelf.Tests.{and-parts, eqb-true, ltb-true}
 use Rattle.std.proofs.shelf.Lists.{length-take-le, drop-drop, take-append-drop, nil-from-length}
 use Rattle.arithmetic.specs.Numbers.{Numbers}
-use Rattle.circuits.specs.Circuit.{Gate, Layer, sizeBelow, gatesFit, layersFit, gateValue, gateValues, copyValues, allValues}
+use Rattle.circuits.specs.Circuit.{Gate, Layer, sizeBelow, gatesFit, layersFit, gateValues, copyValues, allValues}
 
 -- each gate takes places below n
 abbrev pub Reads : ℕ → List Gate → Type 0

@@ -1,20 +1,20 @@
 -- What a layer's sumchecks are about has degree below 4 in each variable: of the copies, of x and of y.
 -- Each factor has degree at most 1; eq and the wiring together count as one factor, or there would be one too many.
-use mathlib.Core.Path.{_≡_, refl, sym, ap, _∙_}
+use mathlib.Core.Path.{_≡_, refl}
 use mathlib.Core.Bool.{Bool, true, false, cond}
 use mathlib.Core.List.{List, [], _∷_, _++_}
 use Prim.Native.Nat.{ℕ, zero, suc, _+_}
 use lib.ListN.{length}
 use Rattle.arithmetic.specs.Numbers.{Numbers}
-use Rattle.arithmetic.proofs.Ring.{Ring, reduce-add, reduce-mul}
-use Rattle.arithmetic.proofs.Solver.{Exp, var, con, _:+_, _:*_, _:-_, red, solve}
+use Rattle.arithmetic.proofs.Ring.{Ring}
+use Rattle.arithmetic.proofs.Solver.{var, _:+_, _:*_, solve}
 use Rattle.arithmetic.proofs.Degree.{Deg, deg-add, deg-mul, deg-line, deg-raise}
 use Rattle.tables.specs.Multilinear.{mle, eqPoly, bitsOf, sumCorners}
 use Rattle.tables.proofs.Extension.{reduce-mle}
 use Rattle.tables.proofs.Linear.{Lin, lin-const, lin-add, lin-mul-l, lin-mul-r, lin-front, lin-back, lin-mle, lin-eqPoly}
 use Rattle.tables.proofs.Places.{bits-length}
 use Rattle.circuits.specs.Circuit.{Kind, sum, product, Gate, Layer}
-use Rattle.argument.specs.Claims.{Share, Claim, sameKind, wiring, sharedWiring, expected}
+use Rattle.argument.specs.Claims.{Share, Claim, sameKind, wiring, sharedWiring}
 use Rattle.argument.proofs.Smooth.{Degs, degs-same, degs-sumCorners}
 use Rattle.argument.proofs.Layer.{summand}
 

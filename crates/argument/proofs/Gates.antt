@@ -1,17 +1,16 @@
 -- One copy of a layer: the wiring, summed against the values below over all corners, gives back the gates' values.
 -- Each gate's eq polynomials pick out the two values that it takes, one after the other.
-use mathlib.Core.Path.{_≡_, refl, sym, ap, ap₂, _∙_}
+use mathlib.Core.Path.{_≡_, refl, ap, ap₂, _∙_}
 use mathlib.Core.Bool.{cond}
-use mathlib.Core.List.{List, [], _∷_, _++_}
-use Prim.Native.Nat.{ℕ, zero, suc, _+_, _^_, _<_}
+use mathlib.Core.List.{List, [], _∷_}
+use Prim.Native.Nat.{ℕ, _+_, _^_, _<_}
 use lib.ListN.{length, getD}
 use Rattle.arithmetic.specs.Numbers.{Numbers}
-use Rattle.arithmetic.proofs.Ring.{Ring, reduce-add, zero-mul}
-use Rattle.arithmetic.proofs.Solver.{Exp, var, con, _:+_, _:*_, _:-_, red, solve}
+use Rattle.arithmetic.proofs.Ring.{Ring, zero-mul}
+use Rattle.arithmetic.proofs.Solver.{var, con, _:+_, _:*_, red, solve}
 use Rattle.tables.specs.Multilinear.{mle, eqPoly, bitsOf, sumCorners}
 use Rattle.tables.specs.Theorems.{sumPlaces}
 use Rattle.tables.proofs.Corners.{sumCorners-same, sumCorners-add, sumCorners-scale}
-use Rattle.tables.proofs.Extension.{reduce-mle}
 use Rattle.tables.proofs.Linear.{Lin, lin-add-l, lin-add-r, lin-mul-l, lin-mul-r, lin-mle, picked}
 use Rattle.tables.proofs.Places.{bits-length, placed, sumPlaces-mle}
 use Rattle.circuits.specs.Circuit.{Kind, sum, product, Gate, Layer, combine, gateValues}

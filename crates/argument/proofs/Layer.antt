@@ -3,18 +3,18 @@
 use mathlib.Core.Path.{_≡_, refl, sym, ap, ap₂, _∙_}
 use mathlib.Core.Bool.{true}
 use mathlib.Core.List.{List, [], _∷_, _++_}
-use Prim.Native.Nat.{ℕ, zero, suc, _+_, _*_, _^_, _≤_}
+use Prim.Native.Nat.{ℕ, zero, suc, _*_, _^_, _≤_}
 use native.Mathlib.Nat.{suc-inj, suc-ne-zero}
 use lib.ListN.{length}
 use Rattle.arithmetic.specs.Numbers.{Numbers}
 use Rattle.arithmetic.proofs.Ring.{Ring, reduce-add, one-mul}
-use Rattle.arithmetic.proofs.Solver.{Exp, var, con, _:+_, _:*_, _:-_, red, solve}
+use Rattle.arithmetic.proofs.Solver.{var, con, _:+_, _:*_, _:-_, solve}
 use Rattle.tables.specs.Multilinear.{mle, eqPoly, sumCorners}
 use Rattle.tables.proofs.Corners.{sumCorners-same, sumCorners-scale}
 use Rattle.tables.proofs.Extension.{mle-halves, mle-zero, mle-one}
-use Rattle.circuits.specs.Circuit.{sum, product, Gate, Layer, sizeBelow, layersFit, gateValues, allValues}
+use Rattle.circuits.specs.Circuit.{sum, product, Layer, sizeBelow, layersFit, gateValues, allValues}
 use Rattle.argument.specs.Claims.{Share, Claim, shareSum, sharedWiring, expected}
-use Rattle.argument.proofs.Copies.{Reads, Fits, fits, Copied, copied}
+use Rattle.argument.proofs.Copies.{Reads, fits, Copied, copied}
 use Rattle.argument.proofs.Gates.{Long, sumPairs, sumPairs-same, sumPairs-scale, body, shares-sum}
 
 module _ {K : Type 0} {N : Numbers K} (R : Ring N) where

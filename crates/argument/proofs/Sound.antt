@@ -1,9 +1,9 @@
 -- Wrong outputs are believed on few rows of coins, over any field.
 -- Their polynomial and the right one agree at few points; at any other point the first claim is wrong.
-use mathlib.Core.Path.{_≡_, refl, sym, ap, ap₂, _∙_}
-use mathlib.Core.Bool.{Bool, true, false, _&&_, true≢false, false≢true}
+use mathlib.Core.Path.{_≡_, refl, sym, ap, _∙_}
+use mathlib.Core.Bool.{Bool, true, false, _&&_, false≢true}
 use mathlib.Core.List.{List, [], _∷_, _++_}
-use Prim.Native.Nat.{ℕ, zero, suc, _+_, _-_, _*_, _≤_, _^_, zero-le}
+use Prim.Native.Nat.{ℕ, zero, suc, _+_, _*_, _≤_, _^_, zero-le}
 use native.Mathlib.Nat.{le-refl, le-trans, le-of-eq, mul-le-mul-right}
 use native.Mathlib.Omega.{arith}
 use lib.Dec.{eqb, leb}
@@ -13,15 +13,15 @@ use Rattle.std.proofs.shelf.Tests.{and-parts, and-from}
 use Rattle.std.proofs.shelf.Lists.{length-take-le, take-at, drop-at, take-append-drop}
 use Rattle.arithmetic.specs.Numbers.{Numbers, allReduced}
 use Rattle.arithmetic.specs.Counting.{indicator, countRows}
-use Rattle.arithmetic.proofs.Ring.{Ring, reduce-add, reduce-mul}
-use Rattle.arithmetic.proofs.Solver.{Exp, var, con, _:+_, _:*_, _:-_, red, solve}
+use Rattle.arithmetic.proofs.Ring.{reduce-add, reduce-mul}
+use Rattle.arithmetic.proofs.Solver.{var, con, _:+_, _:*_, red, solve}
 use Rattle.arithmetic.proofs.Field.{Field, equal-false}
-use Rattle.arithmetic.proofs.Counting.{Row, row-length, sumRows-le, union}
+use Rattle.arithmetic.proofs.Counting.{row-length, sumRows-le, union}
 use Rattle.tables.specs.Multilinear.{mle}
 use Rattle.tables.proofs.Extension.{reduce-mle}
 use Rattle.tables.proofs.Points.{tables-agree}
-use Rattle.circuits.specs.Circuit.{Kind, sum, product, Gate, Layer, Circuit, sizeBelow, layersFit, lawful, outputSize, combine, gateValue, gateValues, copyValues, allValues, outputs}
-use Rattle.argument.specs.Claims.{Claim, shareSum}
+use Rattle.circuits.specs.Circuit.{Kind, sum, product, Gate, Layer, Circuit, layersFit, lawful, outputSize, combine, gateValue, gateValues, copyValues, allValues, outputs}
+use Rattle.argument.specs.Claims.{shareSum}
 use Rattle.argument.specs.Sumcheck.{Prover}
 use Rattle.argument.specs.Argument.{believes, firstClaim, firstCoins, layerCoins, layerChances, coinsOf, chancesOf, accepts}
 use Rattle.argument.proofs.Copies.{allValues-full}

@@ -4,7 +4,7 @@ use mathlib.Core.Path.{_≡_, refl, sym, ap, _∙_}
 use mathlib.Core.Bool.{Bool, true, false, _&&_}
 use mathlib.Core.List.{List, [], _∷_}
 use Prim.Native.Nat.{ℕ, zero, suc, _+_, _*_, _≤_, _^_, zero-le}
-use native.Mathlib.Nat.{zero-add, suc-add, suc-mul, zero-mul, mul-suc, le-refl, le-trans, le-of-eq, mul-le-mul-right, suc-inj, suc-ne-zero}
+use native.Mathlib.Nat.{zero-add, suc-add, zero-mul, suc-inj, suc-ne-zero}
 use native.Mathlib.Omega.{arith}
 use lib.Dec.{eqb}
 use lib.ListN.{length}
@@ -12,7 +12,6 @@ use Rattle.std.proofs.shelf.Tests.{and-parts, and-from, eqb-true}
 use Rattle.arithmetic.specs.Numbers.{Numbers, allReduced}
 use Rattle.arithmetic.specs.Counting.{indicator, countNumbers, countRows}
 use Rattle.arithmetic.specs.Cubic.{interpolate}
-use Rattle.arithmetic.proofs.Ring.{Ring}
 use Rattle.arithmetic.proofs.Field.{Field, equal-false, equal-yes}
 use Rattle.arithmetic.proofs.Counting.{Row, Coin, sumRows-equal, sumRows-zero, step}
 use Rattle.arithmetic.proofs.Truth.{path-of-T, T-of-path}
