@@ -90,14 +90,17 @@ module _ {K : Type 0} {N : Numbers K} (R : Ring N) where
         ∙ ap reduce (ap₂ mul (placed R m X i full h) (placed R m X j full k))
         ∙ solve R (getD X i (nat 0) ∷ getD X j (nat 0) ∷ []) (red (red (var 0) :* red (var 1))) (red (var 0 :* var 1)) refl
 
+    no-gates : sumPairs m (λ x y. body (nat 0) (nat 0) (mle N X x) (mle N X y)) ≡ nat 0
+    no-gates =
+        sumPairs-same m (λ x y. body (nat 0) (nat 0) (mle N X x) (mle N X y)) (λ x y. mul (nat 0) (nat 0))
+        (λ x y. solve R (mle N X x ∷ mle N X y ∷ []) (con 0 :* (var 0 :+ var 1) :+ con 0 :* (var 0 :* var 1)) (con 0 :* con 0) refl)
+        ∙ sumPairs-scale m (nat 0) (λ x y. nat 0) ∙ zero-mul R (sumPairs m (λ x y. nat 0))
+
     gates-sum : (s i : ℕ) (gs : List Gate) (z : List K) → Reads (2 ^ m) gs →
         sumPairs m (λ x y. body (wiring N sum s m i gs z x y) (wiring N product s m i gs z x y) (mle N X x) (mle N X y)) ≡
         sumPlaces N s i (gateValues N X gs) z
     unfolding wiring sumPlaces gateValues
-    gates-sum s i [] z h =
-        sumPairs-same m (λ x y. body (nat 0) (nat 0) (mle N X x) (mle N X y)) (λ x y. mul (nat 0) (nat 0))
-        (λ x y. solve R (mle N X x ∷ mle N X y ∷ []) (con 0 :* (var 0 :+ var 1) :+ con 0 :* (var 0 :* var 1)) (con 0 :* con 0) refl)
-        ∙ sumPairs-scale m (nat 0) (λ x y. nat 0) ∙ zero-mul R (sumPairs m (λ x y. nat 0))
+    gates-sum s i [] z h = no-gates
     gates-sum s i (g ∷ gs) z h =
         let e : K = eqPoly N (bitsOf N s i) z in
         let p : List K → K = eqPoly N (bitsOf N m (g .left)) in
@@ -118,10 +121,7 @@ module _ {K : Type 0} {N : Numbers K} (R : Ring N) where
         sumPairs m (λ x y. body (sharedWiring N sum l m ss x y) (sharedWiring N product l m ss x y) (mle N X x) (mle N X y)) ≡
         shareSum N (gateValues N X (l .gates)) [] ss
     unfolding sharedWiring shareSum
-    shares-sum l many reads [] long =
-        sumPairs-same m (λ x y. body (nat 0) (nat 0) (mle N X x) (mle N X y)) (λ x y. mul (nat 0) (nat 0))
-        (λ x y. solve R (mle N X x ∷ mle N X y ∷ []) (con 0 :* (var 0 :+ var 1) :+ con 0 :* (var 0 :* var 1)) (con 0 :* con 0) refl)
-        ∙ sumPairs-scale m (nat 0) (λ x y. nat 0) ∙ zero-mul R (sumPairs m (λ x y. nat 0))
+    shares-sum l many reads [] long = no-gates
     shares-sum l many reads (s ∷ ss) long =
         let A : List K → List K → K = wiring N sum (l .size) m 0 (l .gates) (s .point) in
         let M : List K → List K → K = wiring N product (l .size) m 0 (l .gates) (s .point) in
