@@ -65,7 +65,8 @@ module _ {K : Type 0} (N : Numbers K) where
       let first : length (copyValues N ls (take n vs)) ≡ w = one (take n vs) (length-take-le n vs (omega arith)) in
       length-append (copyValues N ls (take n vs)) (allValues N ls n count (drop n vs)) ∙ omega (arith, first, rest, suc-mul count w)
 
-  pub allValues-full : (ls : List Layer) (inputs : ℕ) → layersFit ls inputs ≡ true → (copies : ℕ) (vs : List K) → 2 ^ copies * 2 ^ inputs ≤ length vs →
+  pub allValues-full : (ls : List Layer) (inputs : ℕ) → layersFit ls inputs ≡ true →
+      (copies : ℕ) (vs : List K) → 2 ^ copies * 2 ^ inputs ≤ length vs →
       length (allValues N ls (2 ^ inputs) (2 ^ copies) vs) ≡ 2 ^ copies * 2 ^ sizeBelow ls inputs
   allValues-full ls inputs h copies vs enough =
       allValues-length ls (2 ^ inputs) (2 ^ sizeBelow ls inputs) (copyValues-length ls inputs h) (2 ^ copies) vs enough

@@ -107,9 +107,12 @@ module _ {K : Type 0} {N : Numbers K} (R : Ring N) where
         let q : List K → K = eqPoly N (bitsOf N m (g .right)) in
         let v : K = combine N (g .kind) (getD X (g .left) (nat 0)) (getD X (g .right) (nat 0)) in
         let one : List K → List K → K = λ x y. mul (mul (p x) (q y)) (combine N (g .kind) (mle N X x) (mle N X y)) in
-        let others : List K → List K → K = λ x y. body (wiring N sum s m (i + 1) gs z x y) (wiring N product s m (i + 1) gs z x y) (mle N X x) (mle N X y) in
-        sumPairs-same m (λ x y. body (wiring N sum s m i (g ∷ gs) z x y) (wiring N product s m i (g ∷ gs) z x y) (mle N X x) (mle N X y)) (λ x y. add (mul e (one x y)) (others x y))
-        (λ x y. first-apart (g .kind) e (p x) (q y) (wiring N sum s m (i + 1) gs z x y) (wiring N product s m (i + 1) gs z x y) (mle N X x) (mle N X y))
+        let others : List K → List K → K =
+        λ x y. body (wiring N sum s m (i + 1) gs z x y) (wiring N product s m (i + 1) gs z x y) (mle N X x) (mle N X y) in
+        sumPairs-same m (λ x y. body (wiring N sum s m i (g ∷ gs) z x y) (wiring N product s m i (g ∷ gs) z x y) (mle N X x) (mle N X y))
+        (λ x y. add (mul e (one x y)) (others x y))
+        (λ x y.
+        first-apart (g .kind) e (p x) (q y) (wiring N sum s m (i + 1) gs z x y) (wiring N product s m (i + 1) gs z x y) (mle N X x) (mle N X y))
         ∙ sumPairs-add m (λ x y. mul e (one x y)) others
         ∙ ap₂ add
         (sumPairs-scale m e one ∙ ap (mul e) (one-gate (g .kind) (g .left) (g .right) (h .0) (h .1))
@@ -117,7 +120,8 @@ module _ {K : Type 0} {N : Numbers K} (R : Ring N) where
         (gates-sum s (i + 1) gs z (h .2))
 
     -- the same over all shares of a claim
-    pub shares-sum : (l : Layer) → length (l .gates) ≡ 2 ^ l .size → Reads (2 ^ m) (l .gates) → (ss : List (Share K)) → Long (l .size) ss →
+    pub shares-sum : (l : Layer) → length (l .gates) ≡ 2 ^ l .size → Reads (2 ^ m) (l .gates) →
+        (ss : List (Share K)) → Long (l .size) ss →
         sumPairs m (λ x y. body (sharedWiring N sum l m ss x y) (sharedWiring N product l m ss x y) (mle N X x) (mle N X y)) ≡
         shareSum N (gateValues N X (l .gates)) [] ss
     unfolding sharedWiring shareSum

@@ -67,15 +67,18 @@ module _ {K : Type 0} {N : Numbers K} (F : Field N) where
       (λ d. equal-false F (add a (mul s b)) (add a' (mul s b')) good (d ∙ claimBelow-sum X c x y a b s)))
 
   module _ (copies inputs : ℕ) (vs : List K) (full : length vs ≡ 2 ^ copies * 2 ^ inputs) where
-    pub layers-few : (ls : List Layer) (k : Claim K) (f : Prover K) → layersFit ls inputs ≡ true → length (k .copy) ≡ copies → Long (sizeBelow ls inputs) (k .shares) →
+    pub layers-few : (ls : List Layer) (k : Claim K) (f : Prover K) → layersFit ls inputs ≡ true →
+        length (k .copy) ≡ copies → Long (sizeBelow ls inputs) (k .shares) →
         (k .total ≡ shareSum N (allValues N ls (2 ^ inputs) (2 ^ copies) vs) (k .copy) (k .shares) → ⊥) →
-        countRows N (layerCoins copies ls inputs) (believes N copies ls inputs vs k f) * order ≤ layerChances copies ls inputs * order ^ layerCoins copies ls inputs
+        countRows N (layerCoins copies ls inputs) (believes N copies ls inputs vs k f) * order ≤
+        layerChances copies ls inputs * order ^ layerCoins copies ls inputs
     unfolding believes layerCoins layerChances
     layers-few [] k f fit long points wrong =
         none F 0 (0 * order ^ 0) (believes N copies [] inputs vs k f)
         (λ x r. and-left (equal (shareSum N vs (k .copy) (k .shares)) (k .total)) (eqb (length x) 0)
         (equal-no F (shareSum N vs (k .copy) (k .shares)) (k .total)
-        (λ e. wrong (sym e ∙ ap (λ (X : List K). shareSum N X (k .copy) (k .shares)) (sym (allValues-inputs N (2 ^ inputs) (2 ^ copies) vs full))))))
+        (λ e. wrong (sym e
+        ∙ ap (λ (X : List K). shareSum N X (k .copy) (k .shares)) (sym (allValues-inputs N (2 ^ inputs) (2 ^ copies) vs full))))))
     layers-few (l ∷ ls) k f fit long points wrong =
         let m : ℕ = sizeBelow ls inputs in
         let X : List K = allValues N ls (2 ^ inputs) (2 ^ copies) vs in

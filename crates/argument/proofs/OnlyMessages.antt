@@ -74,7 +74,8 @@ module _ {K : Type 0} (N : Numbers K) where
       let first = firstCoins c in
       let z = take first coins in
       ap (λ (b : Bool). eqb (length coins) (coinsOf c) && b)
-      (believes-alike (c .copies) (c .layers) (c .inputs) vs (firstClaim N c claimed z) (λ later. f (z ++ later)) (λ later. g (z ++ later)) (drop first coins)
+      (believes-alike (c .copies) (c .layers) (c .inputs) vs (firstClaim N c claimed z)
+      (λ later. f (z ++ later)) (λ later. g (z ++ later)) (drop first coins)
       (λ n below. rw (← take-add first n coins) (same (first + n) (omega arith) (omega (arith, length-drop first coins)))))
 
 pub onlyMessages : OnlyMessages

@@ -59,7 +59,8 @@ module _ {K : Type 0} {N : Numbers K} (F : Field N) where
       append-reduced (gateValues N (copyValues N ls (take n vs)) (l .gates)) (allValues N (l ∷ ls) n count (drop n vs))
       (gateValues-reduced (copyValues N ls (take n vs)) (l .gates)) (allValues-reduced l ls n count (drop n vs))
 
-  outputs-reduced : (ls : List Layer) (n count : ℕ) (vs : List K) → leb 1 (length ls) ≡ true → allReduced N (allValues N ls n count vs) ≡ true
+  outputs-reduced : (ls : List Layer) (n count : ℕ) (vs : List K) → leb 1 (length ls) ≡ true →
+      allReduced N (allValues N ls n count vs) ≡ true
   outputs-reduced [] n count vs h = absurd (false≢true h)
   outputs-reduced (l ∷ ls) n count vs h = allValues-reduced l ls n count vs
 
@@ -82,8 +83,10 @@ module _ {K : Type 0} {N : Numbers K} (F : Field N) where
       let full : length vs ≡ 2 ^ c .copies * 2 ^ c .inputs = long ∙ pow-add 2 (c .copies) (c .inputs) in
       let outs : length (outputs N c vs) ≡ 2 ^ first =
       allValues-full N (c .layers) (c .inputs) (parts .1) (c .copies) vs (le-of-eq (sym full)) ∙ sym (pow-add 2 (c .copies) (outputSize c)) in
-      union N first later first (layerChances (c .copies) (c .layers) (c .inputs)) (λ z. equal (mle N claimed z) (mle N (outputs N c vs) z)) (accepts N c vs claimed f)
-      (tables-agree F first claimed (outputs N c vs) many outs fine (outputs-reduced (c .layers) (2 ^ c .inputs) (2 ^ c .copies) vs (parts .0)) wrong)
+      union N first later first (layerChances (c .copies) (c .layers) (c .inputs))
+      (λ z. equal (mle N claimed z) (mle N (outputs N c vs) z)) (accepts N c vs claimed f)
+      (tables-agree F first claimed (outputs N c vs) many outs fine
+      (outputs-reduced (c .layers) (2 ^ c .inputs) (2 ^ c .copies) vs (parts .0)) wrong)
       (λ z row differ.
       let there : length z ≡ first = row-length N first z row in
       let believed : List K → Bool = believes N (c .copies) (c .layers) (c .inputs) vs (firstClaim N c claimed z) (λ told. f (z ++ told)) in

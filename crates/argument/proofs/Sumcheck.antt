@@ -36,7 +36,9 @@ module _ {K : Type 0} {N : Numbers K} (F : Field N) where
       countRows N (suc n) test * order ≤ (k + B) * order ^ suc n
   coin-falls n k B true true bad test rest is few h =
       step N n k B bad test (few refl refl)
-      (λ c r e. rw (sumRows-equal N n (λ x. indicator (test (c ∷ x))) (λ x. indicator (rest c x)) (λ x s. ap indicator (is c x))) (h refl refl c r e))
+      (λ c r e.
+      rw (sumRows-equal N n (λ x. indicator (test (c ∷ x))) (λ x. indicator (rest c x)) (λ x s. ap indicator (is c x)))
+      (h refl refl c r e))
   coin-falls n k B true false bad test rest is few h = none (suc n) ((k + B) * order ^ suc n) test all
     where
       all : (x : List K) → Row N (suc n) x → test x ≡ false
@@ -85,9 +87,10 @@ module _ {K : Type 0} {N : Numbers K} (F : Field N) where
   answered (suc n) m G next later total smooth right h (r ∷ coins) e =
       let g : K → K = λ t. sumCorners N n (λ z. G (t ∷ z)) in
       let ys : List K = fourValues N g in
-      and-from (wellFormed N 4 ys) (equal (add (g (nat 0)) (g (nat 1))) total && rounds N n (λ point. next (r ∷ point)) (after r (respond N (suc n) G later)) (interpolate N ys r) coins)
+      let further : Bool = rounds N n (λ point. next (r ∷ point)) (after r (respond N (suc n) G later)) (interpolate N ys r) coins in
+      and-from (wellFormed N 4 ys) (equal (add (g (nat 0)) (g (nat 1))) total && further)
       (path-of-T (allReduced N ys) (values-reduced F g (smooth .0)))
-      (and-from (equal (add (g (nat 0)) (g (nat 1))) total) (rounds N n (λ point. next (r ∷ point)) (after r (respond N (suc n) G later)) (interpolate N ys r) coins)
+      (and-from (equal (add (g (nat 0)) (g (nat 1))) total) further
       (equal-yes F (add (g (nat 0)) (g (nat 1))) total (sym right))
       (answered n m (λ z. G (r ∷ z)) (λ point. next (r ∷ point)) (λ z. later (r ∷ z)) (interpolate N ys r) (smooth .1 r)
       (sym (cubic F g (smooth .0) r)) (λ z l. h (r ∷ z) (ap suc l)) coins (suc-inj (e ∙ suc-add n m))))
