@@ -1,10 +1,10 @@
 -- Two different cubics agree at most at three numbers, two different lines at most at one.
 -- And a function of degree below 4 is the cubic through its own values at 0, 1, 2 and 3.
-use mathlib.Core.Path.{_≡_, refl, sym, ap, ap₂, subst, _∙_}
-use mathlib.Core.Bool.{Bool, true, false, _&&_}
+use mathlib.Core.Path.{_≡_, refl, sym, ap, _∙_}
+use mathlib.Core.Bool.{true, _&&_}
 use mathlib.Core.Logic.{_⊎_, inl, inr}
 use mathlib.Core.List.{List, [], _∷_}
-use Prim.Native.Nat.{ℕ, zero, suc, _+_, _-_, _≤_, _<_}
+use Prim.Native.Nat.{ℕ, _+_, _-_, _≤_, _<_}
 use native.Mathlib.Nat.{le-of-suc-le-suc, not-le-of-lt, sub-add-cancel}
 use native.Mathlib.Omega.{arith}
 use lib.Dec.{T, lit<}
@@ -13,7 +13,7 @@ use Rattle.arithmetic.specs.Numbers.{Numbers, allReduced}
 use Rattle.arithmetic.specs.Counting.{sumBelow, indicator, countNumbers}
 use Rattle.arithmetic.specs.Cubic.{interpolate}
 use Rattle.arithmetic.proofs.Truth.{path-of-T, T-of-path, and-left, and-right, and-both}
-use Rattle.arithmetic.proofs.Ring.{Ring, cancel, reduce-add, reduce-reduce}
+use Rattle.arithmetic.proofs.Ring.{reduce-add, reduce-reduce}
 use Rattle.arithmetic.proofs.Solver.{var, con, _:+_, _:*_, _:-_, red, solve, solve-by, given}
 use Rattle.arithmetic.proofs.Field.{Field, equal-yes}
 use Rattle.arithmetic.proofs.Counting.{sumBelow-more}

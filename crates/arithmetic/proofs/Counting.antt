@@ -1,10 +1,10 @@
 -- Laws of sums below a bound and over rows, and the union bound that soundness is counted with.
 -- A chance is a count times the order against a multiple of all rows, so that no fraction is needed.
 use mathlib.Core.Path.{_≡_, refl, sym, ap, ap₂, _∙_}
-use mathlib.Core.Bool.{Bool, true, false, cond}
+use mathlib.Core.Bool.{Bool, true, false}
 use mathlib.Core.List.{List, [], _∷_, _++_}
 use Prim.Native.Nat.{ℕ, zero, suc, _+_, _*_, _^_, _≤_, _<_, zero-le}
-use native.Mathlib.Nat.{zero-add, suc-add, add-zero, zero-mul, one-mul, suc-mul, mul-one, mul-comm, mul-assoc, add-mul, pow-zero, pow-succ', le-refl, le-trans, le-of-eq, le-step, lt-suc-self, add-le-add, mul-le-mul-right, add-assoc, add-comm, add-left-comm}
+use native.Mathlib.Nat.{zero-add, suc-add, zero-mul, one-mul, suc-mul, mul-one, mul-comm, mul-assoc, add-mul, pow-zero, pow-succ', le-refl, le-trans, le-of-eq, le-step, lt-suc-self, add-le-add, mul-le-mul-right, add-comm}
 use native.Mathlib.Omega.{arith}
 use lib.ListN.{length}
 use lib.Pow.{pow-add}

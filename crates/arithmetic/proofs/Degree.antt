@@ -1,7 +1,7 @@
 -- Functions of degree below n, said without coefficients: a function of degree below n + 1 differs from its
 -- value at r by x - r times a function of degree below n. Sums and products keep this, and division is at hand.
 use mathlib.Core.Path.{_≡_, refl, sym, ap, ap₂, subst, fun-ext, _∙_}
-use mathlib.Core.List.{List, [], _∷_}
+use mathlib.Core.List.{[], _∷_}
 use Prim.Native.Nat.{ℕ, zero, suc, _+_}
 use native.Mathlib.Nat.{suc-add}
 use native.Mathlib.Numerals.{add-one}

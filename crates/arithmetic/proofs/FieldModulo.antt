@@ -3,12 +3,12 @@
 use mathlib.Core.Path.{_≡_, refl, sym, ap, subst, _∙_}
 use mathlib.Core.Bool.{Bool, true, false, cond, true≢false}
 use mathlib.Core.Logic.{_⊎_, inl, inr}
-use mathlib.Core.List.{List, [], _∷_}
-use Prim.Native.Nat.{ℕ, zero, suc, _+_, _-_, _*_, _/_, _%_, _≤_, _<_}
+use mathlib.Core.List.{[], _∷_}
+use Prim.Native.Nat.{ℕ, _+_, _-_, _*_, _/_, _%_, _<_}
 use native.Mathlib.Nat.{mul-zero, mul-div-cancel, mod-self, mod-lt, mod-eq-of-lt, add-mod-left}
 use native.Mathlib.Omega.{arith}
 use lib.Dec.{T, eqb, ltb, eqb→eq, eqb-refl, ltb→lt, lt→ltb}
-use Rattle.arithmetic.specs.Numbers.{Numbers, modulo, Whole, inverseModulo}
+use Rattle.arithmetic.specs.Numbers.{modulo, Whole, inverseModulo}
 use Rattle.arithmetic.proofs.Ring.{Ring, sub-self, sub-zero-equal}
 use Rattle.arithmetic.proofs.Solver.{var, _:*_, _:-_, solve}
 use Rattle.arithmetic.proofs.Modulo.{ringModulo, mul-mod-right}

@@ -4,7 +4,7 @@ use mathlib.Core.Path.{_≡_, refl, ap}
 use mathlib.Core.List.{List, [], _∷_}
 use Rattle.arithmetic.specs.Numbers.{Numbers}
 use Rattle.arithmetic.specs.Cubic.{differences, newton, interpolate}
-use Rattle.arithmetic.proofs.Ring.{Ring, reduce-sub}
+use Rattle.arithmetic.proofs.Ring.{reduce-sub}
 use Rattle.arithmetic.proofs.Solver.{Exp, var, con, _:+_, _:*_, _:-_, solve, solve-by, given}
 use Rattle.arithmetic.proofs.Field.{Field}
 use Rattle.arithmetic.proofs.Degree.{Deg, deg-next}

@@ -1,10 +1,10 @@
 -- The numbers modulo p are a ring, for every p above 1.
 -- A product or a sum may be reduced at any point on the way, which is all that the laws need.
-use mathlib.Core.Path.{_≡_, refl, sym, ap, ap₂, _∙_}
-use Prim.Native.Nat.{ℕ, zero, suc, _+_, _-_, _*_, _/_, _%_, _≤_, _<_}
+use mathlib.Core.Path.{_≡_, refl, sym, ap, _∙_}
+use Prim.Native.Nat.{ℕ, _+_, _-_, _*_, _/_, _%_, _≤_, _<_}
 use native.Mathlib.Nat.{add-zero, add-comm, add-assoc, mul-zero, mul-one, mul-comm, mul-assoc, mul-add, add-mul, zero-mod, mod-self, mod-lt, le-of-lt, add-sub-of-le, mod-add-mod, add-mod-mod, mod-add-div, add-mul-mod-self-left}
 use native.Mathlib.Omega.{arith}
-use Rattle.arithmetic.specs.Numbers.{Numbers, modulo}
+use Rattle.arithmetic.specs.Numbers.{modulo}
 use Rattle.arithmetic.proofs.Ring.{Ring}
 
 module _ (p : ℕ) where

@@ -1,6 +1,6 @@
 -- The laws of a commutative ring for a system of numbers in which several terms stand for one number.
 -- Each law holds with no condition on its terms, because what an operation returns is reduced already.
-use mathlib.Core.Path.{_≡_, refl, sym, ap, _∙_}
+use mathlib.Core.Path.{_≡_, sym, ap, _∙_}
 use Prim.Native.Nat.{ℕ, _+_, _*_}
 use Rattle.arithmetic.specs.Numbers.{Numbers}
 

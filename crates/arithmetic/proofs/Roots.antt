@@ -1,19 +1,19 @@
 -- A function of degree below n is zero everywhere or has fewer than n roots among the elements.
 -- So two such functions are equal everywhere or agree at fewer than n of them.
 use mathlib.Core.Path.{_≡_, refl, sym, ap, subst, _∙_}
-use mathlib.Core.Bool.{Bool, true, false, cond}
+use mathlib.Core.Bool.{Bool, true, false}
 use mathlib.Core.Logic.{_⊎_, inl, inr}
-use mathlib.Core.List.{List, [], _∷_}
-use Prim.Native.Nat.{ℕ, zero, suc, _+_, _≤_, _<_, zero-le, suc-le-suc}
-use native.Mathlib.Nat.{le-refl, le-trans, le-of-eq, le-step, lt-suc-self, lt-of-le-of-lt}
+use mathlib.Core.List.{[], _∷_}
+use Prim.Native.Nat.{ℕ, zero, suc, _+_, _≤_, _<_, zero-le}
+use native.Mathlib.Nat.{le-refl, le-of-eq, le-step, lt-suc-self, lt-of-le-of-lt}
 use native.Mathlib.Omega.{arith}
 use lib.Dec.{T, eqb, eqb→eq, eqb-refl}
 use Rattle.arithmetic.specs.Numbers.{Numbers}
 use Rattle.arithmetic.specs.Counting.{sumBelow, indicator, countNumbers}
 use Rattle.arithmetic.proofs.Truth.{path-of-T, T-of-path}
-use Rattle.arithmetic.proofs.Ring.{Ring, sub-zero-equal, sub-self, zero-add}
-use Rattle.arithmetic.proofs.Counting.{sumBelow-le, sumBelow-equal, sumBelow-add, sumBelow-zero}
-use Rattle.arithmetic.proofs.Solver.{var, con, _:+_, _:*_, _:-_, red, solve, solve-by, given}
+use Rattle.arithmetic.proofs.Ring.{sub-zero-equal, sub-self}
+use Rattle.arithmetic.proofs.Counting.{sumBelow-le, sumBelow-add, sumBelow-zero}
+use Rattle.arithmetic.proofs.Solver.{var, con, _:+_, _:*_, _:-_, solve-by, given}
 use Rattle.arithmetic.proofs.Field.{Field, equal-yes}
 use Rattle.arithmetic.proofs.Degree.{Deg, deg-reduced, deg-sub}
 

@@ -1,12 +1,11 @@
 -- The theorems of `specs/Theorems.antt`, from the general ones over any field, at the numbers modulo p.
 -- Here sums and products modulo p are joined to those of the plain numbers, reduced once.
 use mathlib.Core.Path.{_≡_, refl, sym, ap, _∙_}
-use mathlib.Core.List.{List, [], _∷_}
-use Prim.Native.Nat.{ℕ, zero, suc, _+_, _*_, _%_, _^_, _<_}
+use Prim.Native.Nat.{ℕ, _+_, _*_, _%_, _^_}
 use native.Mathlib.Nat.{mod-eq-of-lt, zero-mod, add-mod-mod, pow-succ', pow-zero, mul-one}
 use native.Mathlib.Omega.{arith}
-use Rattle.arithmetic.specs.Numbers.{Numbers, modulo, Whole}
-use Rattle.arithmetic.specs.Cubic.{differences, newton, interpolate}
+use Rattle.arithmetic.specs.Numbers.{modulo}
+use Rattle.arithmetic.specs.Cubic.{differences, newton}
 use Rattle.arithmetic.specs.Theorems.{ThroughItsValues, ExactForCubics, AgreeAtMostThrice, ExampleModulo31, cubicModulo}
 use Rattle.arithmetic.proofs.Ring.{Ring}
 use Rattle.arithmetic.proofs.Field.{Field}
