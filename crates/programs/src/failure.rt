@@ -1,5 +1,5 @@
 // Why a program ends with status 1, and what it says then.
-// A refusal is told on standard output, as `no 3`; all else on standard error.
+// A refusal is printed on standard output, as `no 3`; all else on standard error.
 use std::alloc::AllocError;
 use std::io;
 
@@ -9,7 +9,7 @@ pub enum Failure {
     Usage,
     // the number of a refusal
     Refused(u32),
-    // something that was judged and not believed, which has been told already
+    // something that was judged and not believed, which has been printed already
     NotBelieved,
     // wanting memory, or lines that cannot be read or written
     System(io::Error),
