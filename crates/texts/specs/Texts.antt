@@ -19,6 +19,10 @@ isLineEnd c = eqb c 10
 abbrev pub isSpace : ℕ → Bool
 isSpace c = eqb c 32 || eqb c 13
 
+-- what parts words
+abbrev pub isGap : ℕ → Bool
+isGap c = isLineEnd c || isSpace c
+
 -- 0 to 9
 abbrev pub isDigit : ℕ → Bool
 isDigit c = leb 48 c && leb c 57

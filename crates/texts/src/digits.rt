@@ -2,13 +2,25 @@
 // A number too large for a word stays at the largest word.
 ghost use mathlib.Core.Path.{_≡_};
 ghost use Prim.Native.Nat.{_+_, _*_, _≤_};
-ghost use Rattle.texts.specs.Texts.{isSpace, isDigit, isLineEnd, capped};
+ghost use Rattle.texts.specs.Texts.{isSpace, isGap, isDigit, capped};
+
+pub const LINE_END: u8 = b'\n';
+
+// What a line that is passed over begins with.
+pub const HASH: u8 = b'#';
 
 // A byte that parts words within a line.
 pub fn is_space(byte: u8) -> bool
     ensures { λ r. ⌜ r ≡ isSpace byte ⌝ }
 {
     byte == b' ' || byte == b'\r'
+}
+
+// A byte that parts words.
+pub fn is_gap(byte: u8) -> bool
+    ensures { λ r. ⌜ r ≡ isGap byte ⌝ }
+{
+    byte == LINE_END || is_space(byte)
 }
 
 pub fn is_digit(byte: u8) -> bool
