@@ -1,3 +1,4 @@
 pub mod Meaning
 pub mod Steps
 pub mod Reading
+pub mod Writing

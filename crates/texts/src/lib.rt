@@ -2,6 +2,7 @@
 // specs/Texts.antt says which numbers a text holds, and which text numbers are written as.
 pub mod digits;
 pub mod error;
+pub mod line;
 pub mod reader;
 pub mod whole;
 pub mod words;
