@@ -2,3 +2,4 @@ pub mod Meaning
 pub mod Steps
 pub mod Reading
 pub mod Writing
+pub mod RoundTrip

@@ -39,7 +39,7 @@ meantWord n cs = before (numberAfter n (firstPiece isSpace (line cs))) (numbersI
 pub by-test : {G : Type 0} (b : Bool) → (b ≡ true → G) → (b ≡ false → G) → G
 by-test b so not-so = ⊎-elim so not-so (cases-bool b)
 
-capped-digit : (n d : ℕ) → capped (10 * capped n + d) ≡ capped (10 * n + d)
+pub capped-digit : (n d : ℕ) → capped (10 * capped n + d) ≡ capped (10 * n + d)
 capped-digit n d = omega arith
 
 mutual

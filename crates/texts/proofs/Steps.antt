@@ -20,10 +20,10 @@ use Rattle.texts.specs.Texts.{isLineEnd, isSpace, isGap, isDigit, capped}
 space-is : (c : ℕ) → isSpace c ≡ true → (c ≡ 32) ⊎ (c ≡ 13)
 space-is c s = ⊎-elim (λ e. inl (eqb-true c 32 e)) (λ e. inr (eqb-true c 13 e)) (or-cases (eqb c 32) (eqb c 13) s)
 
-space-no-line-end : (c : ℕ) → isSpace c ≡ true → isLineEnd c ≡ false
+pub space-no-line-end : (c : ℕ) → isSpace c ≡ true → isLineEnd c ≡ false
 space-no-line-end c s = ne-eqb c 10 (λ e. ⊎-elim (λ (h : c ≡ 32). omega arith) (λ (h : c ≡ 13). omega arith) (space-is c s))
 
-space-no-hash : (c : ℕ) → isSpace c ≡ true → eqb c 35 ≡ false
+pub space-no-hash : (c : ℕ) → isSpace c ≡ true → eqb c 35 ≡ false
 space-no-hash c s = ne-eqb c 35 (λ e. ⊎-elim (λ (h : c ≡ 32). omega arith) (λ (h : c ≡ 13). omega arith) (space-is c s))
 
 -- ---- comments
@@ -99,17 +99,18 @@ gap-later text i j h none some =
     (cases-lt i j)
 
 -- a word ends at a gap, or where the text does; what is left is then read as a text of its own
+pub at-gap : (n c : ℕ) (cs : List ℕ) → isGap c ≡ true → readFrom (word n) (c ∷ cs) ≡ with n (readFrom first (c ∷ cs))
+unfolding readFrom
+at-gap n c cs g =
+    ⊎-elim
+    (λ (e : isLineEnd c ≡ true). rw e refl)
+    (λ (s : isSpace c ≡ true). rw (space-no-line-end c s, space-no-hash c s, s) refl)
+    (or-cases (isLineEnd c) (isSpace c) g)
+
 pub word-ends : (n : ℕ) (text : List ℕ) (i : ℕ) → (i < length text → isGap (getD text i 0) ≡ true) → readFrom (word n) (drop i text) ≡ with n (readFrom first (drop i text))
 unfolding readFrom
 word-ends n text i stops =
     ⊎-elim
-    (λ (h : i < length text). rw (drop-more text i 0 h) (at-gap (getD text i 0) (drop (i + 1) text) (stops h)))
+    (λ (h : i < length text). rw (drop-more text i 0 h) (at-gap n (getD text i 0) (drop (i + 1) text) (stops h)))
     (λ (h : length text ≤ i). rw (drop-all i text h) refl)
     (cases-lt i (length text))
-  where
-    at-gap : (c : ℕ) (cs : List ℕ) → isGap c ≡ true → readFrom (word n) (c ∷ cs) ≡ with n (readFrom first (c ∷ cs))
-    at-gap c cs g =
-        ⊎-elim
-        (λ (e : isLineEnd c ≡ true). rw e refl)
-        (λ (s : isSpace c ≡ true). rw (space-no-line-end c s, space-no-hash c s, s) refl)
-        (or-cases (isLineEnd c) (isSpace c) g)

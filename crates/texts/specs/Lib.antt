@@ -1,3 +1,4 @@
 pub mod Texts
 pub mod Machine
 pub mod Answers
+pub mod Theorems
