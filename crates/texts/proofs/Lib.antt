@@ -3,3 +3,4 @@ pub mod Steps
 pub mod Reading
 pub mod Writing
 pub mod RoundTrip
+pub mod OneReading

@@ -49,7 +49,7 @@ own : Numerals (All Digit) valueOf
 own = numerals-by-weight (All Digit) (record { empty = tt; parts = λ c cs p. (digit-in c (p .0), p .1); more = λ c cs h p. (in-digit c h, p) }) valueOf (record { empty = refl; more = λ c cs h. refl })
 
 -- ---- a word
-weigh : (n d p v : ℕ) → (10 * n + d) * p + v ≡ n * (10 * p) + (d * p + v)
+pub weigh : (n d p v : ℕ) → (10 * n + d) * p + v ≡ n * (10 * p) + (d * p + v)
 weigh n d p v =
     ap (λ x. x + v) (add-mul (10 * n) d p) ∙ add-assoc (10 * n * p) (d * p) v ∙ ap (λ x. x + (d * p + v)) (ap (λ x. x * p) (mul-comm 10 n) ∙ mul-assoc n 10 p)
 
