@@ -3,6 +3,7 @@
 pub mod digits;
 pub mod error;
 pub mod line;
+pub mod lines;
 pub mod reader;
 pub mod whole;
 pub mod words;
