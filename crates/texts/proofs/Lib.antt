@@ -4,3 +4,4 @@ pub mod Reading
 pub mod Writing
 pub mod RoundTrip
 pub mod OneReading
+pub mod LineByLine

@@ -1,4 +1,4 @@
--- What is true of texts, in words of their own: what is written is read again, and a text has one reading at most.
+-- What is true of texts, in words of their own: what is written is read again, lines may be read one by one, and a text has one reading at most.
 -- A reading is told by what a text is made of, with no machine and no order in which to go.
 use mathlib.Core.Bool.{Bool, true, false}
 use mathlib.Core.List.{List, [], _∷_, _++_}
@@ -6,7 +6,9 @@ use mathlib.Core.Path.{_≡_}
 use Prim.Native.Nat.{ℕ, _+_, _-_, _*_, _^_, _<_}
 use lib.ListN.{length}
 use Rattle.std.specs.shelf.Lists.{All}
-use Rattle.std.specs.declared.option.Option.the-variants.{Some}
+use Rattle.std.specs.Options.{mapped}
+use Rattle.std.specs.declared.option.Option.{Option}
+use Rattle.std.specs.declared.option.Option.the-variants.{Some, None}
 use Rattle.texts.specs.Texts.{isLineEnd, isSpace, isGap, isDigit, capped, numbersOf, lineOf, linesOf}
 
 -- ---- what is written is read again
@@ -14,6 +16,17 @@ use Rattle.texts.specs.Texts.{isLineEnd, isSpace, isGap, isDigit, capped, numb
 abbrev pub RoundTrip : Type 0
 RoundTrip =
     (ns : List ℕ) → All (λ n. n < 2 ^ 32) ns → (numbersOf (lineOf ns) ≡ Some ns) × ((k : ℕ) → 0 < k → numbersOf (linesOf k ns) ≡ Some ns)
+
+-- ---- line by line
+-- the numbers of one text and then of another, if both have numbers
+abbrev pub andThen : Option (List ℕ) → Option (List ℕ) → Option (List ℕ)
+andThen None p = None
+andThen (Some ns) p = mapped (λ ms. ns ++ ms) p
+
+-- a text may be read line by line: each line is a text
+abbrev pub LineByLine : Type 0
+LineByLine =
+    (line rest : List ℕ) → All (λ c. isLineEnd c ≡ false) line → numbersOf (line ++ (10 ∷ rest)) ≡ andThen (numbersOf line) (numbersOf rest)
 
 -- ---- one reading
 -- the number that digits write: each counts by the power of ten of its place
