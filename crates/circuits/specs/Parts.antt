@@ -1,0 +1,18 @@
+-- Parts of a circuit's words: the layers from one of them down, and the gates of one layer.
+-- These hold of each part of a lawful circuit; the views carry them along.
+use mathlib.Core.Bool.{Bool, _&&_}
+use mathlib.Core.List.{List}
+use Prim.Native.Nat.{ℕ, _+_, _*_, _^_}
+use lib.Dec.{eqb, leb}
+use lib.ListN.{length}
+use Rattle.circuits.specs.Circuit.{gatesFit, layersFit}
+use Rattle.circuits.specs.Words.{gatesOf, layersOf, shaped}
+
+-- the words of just n layers of a circuit, down to its inputs
+unfoldable pub areLayers : ℕ → ℕ → ℕ → List ℕ → Bool
+areLayers copies inputs n ws = leb (copies + inputs) 16 && (shaped copies n ws && layersFit (layersOf n ws) inputs)
+
+-- the words of the gates of one layer of a given size, over one of the size below
+unfoldable pub isLayer : ℕ → ℕ → List ℕ → Bool
+isLayer size below ws =
+    leb size 16 && (leb below 16 && (eqb (length ws) (3 * 2 ^ size) && gatesFit (2 ^ below) (gatesOf (2 ^ size) ws)))
