@@ -2,6 +2,7 @@
 // What a circuit and its words mean is defined in specs/Circuit.antt and specs/Words.antt.
 mod gate;
 mod refusal;
+mod shape;
 mod view;
 
 pub use gate::Gate;
