@@ -1,6 +1,7 @@
 // Layered circuits in words: a checked view of them, and working out what they give.
 // What a circuit and its words mean is defined in specs/Circuit.antt and specs/Words.antt.
 mod gate;
+mod places;
 mod refusal;
 mod shape;
 mod view;
