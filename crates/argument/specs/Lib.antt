@@ -3,3 +3,4 @@ pub mod Sumcheck
 pub mod Argument
 pub mod Honest
 pub mod Promise
+pub mod Transcript

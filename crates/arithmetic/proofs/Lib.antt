@@ -1,0 +1,2 @@
+pub mod ShiftAndSum
+pub mod Newton
