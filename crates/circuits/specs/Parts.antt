@@ -5,8 +5,8 @@ use mathlib.Core.List.{List}
 use Prim.Native.Nat.{ℕ, _+_, _*_, _^_}
 use lib.Dec.{eqb, leb}
 use lib.ListN.{length, drop}
-use Rattle.circuits.specs.Circuit.{gatesFit, layersFit}
-use Rattle.circuits.specs.Words.{word, gatesOf, layersOf, kindsKnown, shaped}
+use Rattle.circuits.specs.Circuit.{Gate, gatesFit, layersFit}
+use Rattle.circuits.specs.Words.{word, kindOf, gatesOf, layersOf, kindsKnown, shaped}
 
 -- the words of just n layers of a circuit, down to its inputs
 unfoldable pub areLayers : ℕ → ℕ → ℕ → List ℕ → Bool
@@ -26,3 +26,7 @@ unfoldable pub startsLayer : ℕ → List ℕ → Bool
 startsLayer copies ws =
     leb 1 (length ws) &&
     (leb (copies + word ws 0) 16 && (leb (layerLength ws) (length ws) && kindsKnown (2 ^ word ws 0) (drop 1 ws)))
+
+-- the gate at a place among the words of gates
+abbrev pub gateAt : List ℕ → ℕ → Gate
+gateAt ws i = record { kind = kindOf (word ws (3 * i)); left = word ws (3 * i + 1); right = word ws (3 * i + 2) }

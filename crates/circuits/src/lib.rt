@@ -12,3 +12,4 @@ pub use refusal::Refusal;
 pub use view::CircuitView;
 pub use view::LayerView;
 pub use view::LayersView;
+pub use view::check_circuit;

@@ -38,10 +38,10 @@ pub fn split_layer<'a>(copies: u32, count: u32, words: &'a [u32]) -> Split<'a>
 
 // The size of the first of these layers, or, where there is none, that of the inputs.
 pub fn top_size(copies: u32, inputs: u32, count: u32, words: &[u32]) -> u32
-    requires inputs { ⌜ inputs ≤ 16 ⌝ }
+    requires inputs { ⌜ copies + inputs ≤ 16 ⌝ }
     requires shaped { ⌜ shaped copies count (now words) ≡ true ⌝ }
     ensures size { λ r. ⌜ r ≡ sizeBelow (layersOf count (now (words .entry))) inputs ⌝ }
-    ensures limit { λ r. ⌜ r ≤ 16 ⌝ }
+    ensures limit { λ r. ⌜ copies + r ≤ 16 ⌝ }
 {
     if count == 0 {
         inputs
@@ -66,7 +66,7 @@ fn gates_fit(places: usize, count: usize, words: &[u32]) -> bool
 }
 
 pub fn layers_fit(copies: u32, inputs: u32, count: u32, words: &[u32]) -> bool
-    requires inputs { ⌜ inputs ≤ 16 ⌝ }
+    requires inputs { ⌜ copies + inputs ≤ 16 ⌝ }
     requires shaped { ⌜ shaped copies count (now words) ≡ true ⌝ }
     ensures { λ r. ⌜ r ≡ layersFit (layersOf count (now (words .entry))) inputs ⌝ }
 {
