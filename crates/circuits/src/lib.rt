@@ -4,6 +4,7 @@ mod gate;
 mod places;
 mod refusal;
 mod shape;
+mod values;
 mod view;
 
 pub use gate::Gate;
