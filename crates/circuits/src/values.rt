@@ -35,3 +35,23 @@ fn gate_values<M: Modular>(layer: LayerView, below: &[u32], values: &mut [u32])
         values[i] = combine::<M>(gate.kind, below[gate.left], below[gate.right]);
     }
 }
+
+// All copies, one after the other: in each, the layer's values over those that lie below in the same copy.
+pub fn layer_values<M: Modular>(layer: LayerView, copies: u32, below: &[u32], values: &mut [u32])
+    requires limit { ⌜ copies ≤ 16 ⌝ }
+    requires lengths { ⌜ length (now below) ≡ 2 ^ copies * 2 ^ placesBelow layer ⌝ ∗ ⌜ length (now values) ≡ 2 ^ copies * 2 ^ sizeSeen layer ⌝ }
+    requires reduced { ⌜ EachBelow modulus (now below) ⌝ }
+    ensures { λ _. ⌜ now (values .exit) ≡ allValues (modulo modulus) (layerSeen (layer .entry) ∷ []) (2 ^ placesBelow (layer .entry)) (2 ^ copies) (now (below .entry)) ⌝ }
+{
+    let places = power(layer.size_below());
+    let gates = layer.gate_count();
+    for copy in 0..power(copies) {
+        let from = copy * places;
+        let to = copy * gates;
+        gate_values::<M>(
+            layer,
+            &below[from..from + places],
+            &mut values[to..to + gates],
+        );
+    }
+}
