@@ -1,6 +1,7 @@
 // Layered circuits in words: a checked view of them, and working out what they give.
 // What a circuit and its words mean is defined in specs/Circuit.antt and specs/Words.antt.
 mod gate;
+mod outputs;
 mod places;
 mod refusal;
 mod shape;
@@ -9,6 +10,9 @@ mod view;
 
 pub use gate::Gate;
 pub use gate::Kind;
+pub use outputs::check_counts;
+pub use outputs::check_reduced;
+pub use outputs::run;
 pub use refusal::Refusal;
 pub use view::CircuitView;
 pub use view::LayerView;
