@@ -2,3 +2,4 @@
 // Each main only moves lines.
 pub mod dice;
 pub mod failure;
+pub mod scanner;
