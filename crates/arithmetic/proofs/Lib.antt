@@ -1,2 +1,10 @@
 pub mod ShiftAndSum
 pub mod Newton
+pub mod Ring
+pub mod Polynomial
+pub mod Solver
+pub mod Modulo
+pub mod Truth
+pub mod Field
+pub mod FieldModulo
+pub mod Counting

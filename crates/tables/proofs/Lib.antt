@@ -1,0 +1,4 @@
+pub mod Corners
+pub mod Extension
+pub mod Linear
+pub mod Places
