@@ -2,3 +2,5 @@ pub mod Corners
 pub mod Extension
 pub mod Linear
 pub mod Places
+pub mod ReducedLists
+pub mod HalvingSteps
