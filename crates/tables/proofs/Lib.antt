@@ -4,3 +4,5 @@ pub mod Linear
 pub mod Places
 pub mod ReducedLists
 pub mod HalvingSteps
+pub mod EqSteps
+pub mod DoublingSteps
