@@ -110,27 +110,29 @@ halving-none p xs point e t =
       reduced = t;
     }
 
--- one coordinate more: `live` is what fixing it made of the live part
-pub halving-more : (p : ℕ) (xs point table live : List ℕ) (i len : ℕ) → Halving p xs point table i len → i < length point →
-    live ≡ fixFirst (modulo p) (getD point i 0) (take len table) ++ drop (length (take len table) / 2) (take len table) →
+-- one coordinate more: `live` is what fixing it made of the live part, whose end is `end`
+pub halving-more : {p : ℕ} {xs point table : List ℕ} {i len : ℕ} → Halving p xs point table i len → (live : List ℕ) (end : ℕ) → end ≡ len → i < length point →
+    live ≡ fixFirst (modulo p) (getD point i 0) (take end table) ++ drop (length (take end table) / 2) (take end table) →
     T (allReduced (modulo p) live) →
-    Halving p xs point (live ++ drop len table) (i + 1) (len / 2)
+    Halving p xs point (live ++ drop end table) (i + 1) (len / 2)
 unfolding mle halvedAll
-halving-more p xs point table live i len h inside e t =
+halving-more {p} {xs} {point} {table} {i} {len} h live end same inside e t =
     record {
       size = halved;
       fits = simp length-append (omega (arith, ap length e, length-append fixed rest, half-length));
-      value = ap (λ (l : List ℕ). mle (modulo p) l (drop (i + 1) point)) front-live ∙ sym (ap (mle (modulo p) before) next) ∙ h .value;
+      value =
+          ap (λ (l : List ℕ). mle (modulo p) l (drop (i + 1) point)) front-live
+          ∙ sym (ap (mle (modulo p) before) next) ∙ ap (λ (n : ℕ). mle (modulo p) (take n table) (drop i point)) same ∙ h .value;
       words =
           ap₂ (λ (l m : List ℕ). halvedAll (modulo p) l (drop (i + 1) point) ++ m) front-live rest-live
-          ∙ sym (append-assoc (halvedAll (modulo p) fixed (drop (i + 1) point)) rest (drop len table))
-          ∙ sym (ap (λ (l : List ℕ). halvedAll (modulo p) before l ++ drop len table) next)
-          ∙ h .words;
-      reduced = reduced-append p live (drop len table) t (reduced-drop p len table (h .reduced));
+          ∙ sym (append-assoc (halvedAll (modulo p) fixed (drop (i + 1) point)) rest (drop end table))
+          ∙ sym (ap (λ (l : List ℕ). halvedAll (modulo p) before l ++ drop end table) next)
+          ∙ ap (λ (n : ℕ). halvedAll (modulo p) (take n table) (drop i point) ++ drop n table) same ∙ h .words;
+      reduced = reduced-append p live (drop end table) t (reduced-drop p end table (h .reduced));
     }
   where
     before : List ℕ
-    before = take len table
+    before = take end table
 
     fixed : List ℕ
     fixed = fixFirst (modulo p) (getD point i 0) before
@@ -150,34 +152,22 @@ halving-more p xs point table live i len h inside e t =
     half-length : length fixed ≡ len / 2
     half-length =
         front (modulo p) (getD point i 0) (length before / 2) (length before / 2) before (omega arith)
-        ∙ ap (λ (n : ℕ). n / 2) (length-take-le len table (h .fits))
+        ∙ ap (λ (n : ℕ). n / 2) (length-take-le end table (omega (arith, h .fits)) ∙ same)
 
-    joined : live ++ drop len table ≡ fixed ++ (rest ++ drop len table)
-    joined = ap (λ (l : List ℕ). l ++ drop len table) e ∙ append-assoc fixed rest (drop len table)
+    joined : live ++ drop end table ≡ fixed ++ (rest ++ drop end table)
+    joined = ap (λ (l : List ℕ). l ++ drop end table) e ∙ append-assoc fixed rest (drop end table)
 
-    front-live : take (len / 2) (live ++ drop len table) ≡ fixed
-    front-live = ap (take (len / 2)) joined ∙ take-at fixed (rest ++ drop len table) (len / 2) half-length
+    front-live : take (len / 2) (live ++ drop end table) ≡ fixed
+    front-live = ap (take (len / 2)) joined ∙ take-at fixed (rest ++ drop end table) (len / 2) half-length
 
-    rest-live : drop (len / 2) (live ++ drop len table) ≡ rest ++ drop len table
-    rest-live = ap (drop (len / 2)) joined ∙ drop-at fixed (rest ++ drop len table) (len / 2) half-length
-
--- the same, with the live part's end as a part of a slice has it
-pub halving-cut : (p : ℕ) (xs point table live : List ℕ) (i len end : ℕ) → end ≡ len → Halving p xs point table i len → i < length point →
-    live ≡ fixFirst (modulo p) (getD point i 0) (take end table) ++ drop (length (take end table) / 2) (take end table) →
-    T (allReduced (modulo p) live) →
-    Halving p xs point (live ++ drop end table) (i + 1) (len / 2)
-halving-cut p xs point table live i len end same h inside =
-    let P : ℕ → Type 0 =
-    λ n. live ≡ fixFirst (modulo p) (getD point i 0) (take n table) ++ drop (length (take n table) / 2) (take n table) →
-    T (allReduced (modulo p) live) → Halving p xs point (live ++ drop n table) (i + 1) (len / 2)
-    in
-    subst P (sym same) (halving-more p xs point table live i len h inside)
+    rest-live : drop (len / 2) (live ++ drop end table) ≡ rest ++ drop end table
+    rest-live = ap (drop (len / 2)) joined ∙ drop-at fixed (rest ++ drop end table) (len / 2) half-length
 
 -- at the end one number is live, and it is the value
-pub halving-all : (p : ℕ) (xs point table : List ℕ) (i len : ℕ) → Halving p xs point table i len → length point ≤ i →
+pub halving-all : {p : ℕ} {xs point table : List ℕ} {i len : ℕ} → Halving p xs point table i len → length point ≤ i →
     (getD table 0 0 ≡ mle (modulo p) xs point) × (getD table 0 0 < p) × (table ≡ halvedAll (modulo p) xs point)
 unfolding mle halvedAll
-halving-all p xs point table i len h end = (sym small ∙ value, below, words)
+halving-all {p} {xs} {point} {table} {i} {len} h end = (sym small ∙ value, below, words)
   where
     none : drop i point ≡ []
     none = drop-all i point end

@@ -2,7 +2,7 @@
 use Prim.Native.Nat.{_-_}
 use native.Mathlib.Omega.{arith}
 use Rattle.arithmetic.proofs.Newton.{reduced-at}
-use Rattle.tables.proofs.HalvingSteps.{halving-none, halving-cut, halving-all}
+use Rattle.tables.proofs.HalvingSteps.{halving-none, halving-more, halving-all}
 use Rattle.tables.proofs.ReducedLists.{reduced-take}
 use Rattle.tables.proofs.halving.mle_at.Needs as need
 
@@ -19,11 +19,10 @@ fix-first-requires g c κs =
 
 pub loop-r-again : need.loop-r-again
 loop-r-again g c =
-    halving-cut (g .M·Modular .modulus) (c .args .table .now) (c .args .point .now) (c .loop-r .table) (c .fix-first .last .table)
-    (c .loop-r .r-index) (c .loop-r .len) (c .loop-r .len - 0) (omega arith) (c .loop-r .inv) (c .loop-r-test .taken)
+    halving-more (c .loop-r .inv) (c .fix-first .last .table) (c .loop-r .len - 0) (omega arith) (c .loop-r-test .taken)
     (c .fix-first .ensures .words) (c .fix-first .ensures .reduced)
 
 pub returns : need.returns
 returns g c =
-    let (value, below, words) = halving-all (g .M·Modular .modulus) (c .args .table .now) (c .args .point .now) (c .loop-r .table) (c .loop-r .r-index) (c .loop-r .len) (c .loop-r .inv) (omega arith) in
+    let (value, below, words) = halving-all (c .loop-r .inv) (omega arith) in
     record { value = value; below = below; words = words; reduced = c .loop-r .inv .reduced }
