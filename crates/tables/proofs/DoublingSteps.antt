@@ -13,9 +13,9 @@ use Rattle.std.proofs.shelf.Lists.{append-nil, length-take-le, getD-take, take-
 use Rattle.std.proofs.shelf.Parts.{drop-append-drop}
 use Rattle.arithmetic.specs.Numbers.{modulo, allReduced}
 use Rattle.arithmetic.proofs.Modulo.{ringModulo}
-use Rattle.arithmetic.proofs.Newton.{reduced-at}
 use Rattle.tables.specs.InPlace.{splitFirst, scaledEqTable}
 use Rattle.tables.proofs.EqSteps.{scaled-length, scaled-none, scaled-split, scaled-reduced}
+use Rattle.tables.proofs.ReducedLists.{reduced-anywhere}
 
 -- two writes, one in each half
 two-writes : {K : Type 0} (A B C D : List K) (x y low high : K) (half i : ℕ) → length A ≡ i → length C ≡ i → suc i + length B ≡ half →
@@ -86,15 +86,12 @@ module _ {K : Type 0} (low high : K → K) where
       ∙ ap (λ (m : List K). map low (take half xs) ++ m) (append-nil (map high (take half xs)))
 
 -- the number that a turn reads is as it was at the start, so reduced
-pub partly-below : (p : ℕ) (low high : ℕ → ℕ) (half i : ℕ) (xs table : List ℕ) → table ≡ partlySplit low high half i xs → i < half → half ≤ length xs →
+pub partly-below : (p : ℕ) → 0 < p → (low high : ℕ → ℕ) (half i : ℕ) (xs table : List ℕ) → table ≡ partlySplit low high half i xs → i < half → half ≤ length xs →
     T (allReduced (modulo p) (take half xs)) → getD table i 0 < p
-partly-below p low high half i xs table e h l t =
-    let here : getD table i 0 ≡ getD (take half xs) i 0 =
-    ap (λ (l : List ℕ). getD l i 0) e ∙ partly-at low high 0 half i xs h l ∙ sym (getD-take half xs i 0 h)
-    in
-    let size : length (take half xs) ≡ half = length-take-le half xs l in
-    let below : getD (take half xs) i 0 < p = reduced-at p (take half xs) t i (omega arith) in
-    omega arith
+partly-below p positive low high half i xs table e h l t =
+    subst (λ (x : ℕ). x < p)
+    (sym (ap (λ (l : List ℕ). getD l i 0) e ∙ partly-at low high 0 half i xs h l ∙ sym (getD-take half xs i 0 h)))
+    (reduced-anywhere p positive (take half xs) t i)
 
 -- The table of eq for the last `done` coordinates of a point, and past it the words that were there.
 pub record Doubling (p factor : ℕ) (point before out : List ℕ) (done len : ℕ) : Type 0 where

@@ -11,12 +11,11 @@ use lib.ListN.{length, getD, set, take, drop, length-append, length-take, length
 use Rattle.std.proofs.shelf.Lists.{append-nil, length-take-le, take-append-drop, getD-take, set-at, getD-drop, getD-append-right, drop-more, drop-all, take-all, take-at, drop-at}
 use Rattle.arithmetic.specs.Numbers.{Numbers, modulo, allReduced}
 use Rattle.arithmetic.proofs.Modulo.{ringModulo}
-use Rattle.arithmetic.proofs.Newton.{reduced-at}
 use Rattle.arithmetic.proofs.Solver.{var, con, _:+_, _:*_, _:-_, solve}
 use Rattle.arithmetic.proofs.Truth.{and-both}
 use Rattle.tables.specs.InPlace.{onLine, halvedAll}
 use Rattle.tables.specs.Multilinear.{blend, fixFirst, mle}
-use Rattle.tables.proofs.ReducedLists.{reduced-append, reduced-drop}
+use Rattle.tables.proofs.ReducedLists.{reduced-anywhere, reduced-append, reduced-drop}
 
 -- one multiplication does what two did
 pub on-line : (p : ℕ) → 1 < p → (r a b : ℕ) →
@@ -164,10 +163,10 @@ halving-more {p} {xs} {point} {table} {i} {len} h live end same inside e t =
     rest-live = ap (drop (len / 2)) joined ∙ drop-at fixed (rest ++ drop end table) (len / 2) half-length
 
 -- at the end one number is live, and it is the value
-pub halving-all : {p : ℕ} {xs point table : List ℕ} {i len : ℕ} → Halving p xs point table i len → length point ≤ i →
+pub halving-all : {p : ℕ} {xs point table : List ℕ} {i len : ℕ} → Halving p xs point table i len → 0 < p → length point ≤ i →
     (getD table 0 0 ≡ mle (modulo p) xs point) × (getD table 0 0 < p) × (table ≡ halvedAll (modulo p) xs point)
 unfolding mle halvedAll
-halving-all {p} {xs} {point} {table} {i} {len} h end = (sym small ∙ value, below, words)
+halving-all {p} {xs} {point} {table} {i} {len} h positive end = (sym small ∙ value, below, words)
   where
     none : drop i point ≡ []
     none = drop-all i point end
@@ -178,7 +177,7 @@ halving-all {p} {xs} {point} {table} {i} {len} h end = (sym small ∙ value, bel
         h .size ∙ ap (λ (k : ℕ). 2 ^ k) left
 
     below : getD table 0 0 < p
-    below = reduced-at p table (h .reduced) 0 (omega (arith, one, h .fits))
+    below = reduced-anywhere p positive table (h .reduced) 0
 
     small : getD table 0 0 % p ≡ getD table 0 0
     small = mod-eq-of-lt below

@@ -2,10 +2,10 @@
 use Prim.Native.Nat.{_-_, _*_, _<_}
 use native.Mathlib.Omega.{arith}
 use borrow.Author.Needs.{needs}
-use lib.ListN.{length, length-set}
-use Rattle.arithmetic.proofs.Newton.{reduced-at}
+use lib.ListN.{length-set}
 use Rattle.tables.proofs.DoublingSteps.{doubling-none, doubling-room, place-even, first-half-reduced, doubling-more, doubling-all}
 use Rattle.tables.proofs.EqSteps.{scaled-reduced}
+use Rattle.tables.proofs.ReducedLists.{reduced-anywhere}
 use Rattle.tables.proofs.eq.eq_table_scaled.Needs as need
 
 pub loop-done-holds : need.loop-done-holds
@@ -23,13 +23,12 @@ part-split-first-end g c = let room = doubling-room (c .loop-done .inv) (c .loop
 pub split-first-requires : need.split-first-requires
 split-first-requires g c κs =
     let p = g .M·Modular .modulus in
-    let point = c .args .point .now in
     let end = c .loop-done .len * 2 - 0 in
     let positive : 0 < p = omega (arith, g .M·Modular·met .above) in
     record {
       even = place-even (c .loop-done .inv) end (omega arith) (c .loop-done-test .taken);
       reduced = first-half-reduced (c .loop-done .inv) positive end (omega arith) (c .loop-done-test .taken);
-      r-below = reduced-at p point (c .pre .point-reduced) (length point - 1 - c .loop-done .done) (omega arith);
+      r-below = reduced-anywhere p positive (c .args .point .now) (c .pre .point-reduced) _;
     }
 
 pub loop-done-again : need.loop-done-again
