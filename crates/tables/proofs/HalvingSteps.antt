@@ -1,13 +1,13 @@
 -- A table being halved in place, step by step: the first i places fixed, the others as they were.
 -- And a table being halved again and again, its live part first.
-use mathlib.Core.Path.{_≡_, refl, sym, ap, ap₂, subst, _∙_}
+use mathlib.Core.Path.{_≡_, refl, sym, ap, ap₂, _∙_}
 use mathlib.Core.List.{List, [], _∷_, _++_, append-assoc}
-use Prim.Native.Nat.{ℕ, zero, suc, _+_, _-_, _*_, _/_, _%_, _^_, _<_, _≤_}
+use Prim.Native.Nat.{ℕ, zero, suc, _+_, _-_, _/_, _%_, _^_, _<_, _≤_}
 use native.Mathlib.Nat.{mod-lt, mod-eq-of-lt, le-of-suc-le-suc, not-suc-le-zero, two-pow-succ}
 use native.Mathlib.Numerals.{add-one}
 use native.Mathlib.Omega.{arith}
 use lib.Dec.{T, ltb, lt→ltb}
-use lib.ListN.{length, getD, set, take, drop, length-append, length-take, length-drop}
+use lib.ListN.{length, getD, set, take, drop, length-append, length-drop}
 use Rattle.std.proofs.shelf.Lists.{append-nil, length-take-le, take-append-drop, getD-take, set-at, getD-drop, getD-append-right, drop-more, drop-all, take-all, take-at, drop-at}
 use Rattle.arithmetic.specs.Numbers.{Numbers, modulo, allReduced}
 use Rattle.arithmetic.proofs.Modulo.{ringModulo}
