@@ -8,3 +8,5 @@ pub mod Truth
 pub mod Field
 pub mod FieldModulo
 pub mod Counting
+pub mod Degree
+pub mod Roots

@@ -5,11 +5,11 @@ use mathlib.Core.List.{List, [], _∷_, _++_}
 use Prim.Native.Nat.{ℕ, zero, suc, _/_, min}
 use native.Mathlib.Nat.{suc-min-suc, suc-ne-zero}
 use native.Mathlib.Omega.{arith}
-use lib.ListN.{length, take, drop, getD, length-append, length-take, length-drop}
-use lib.Seq.{take-nil, drop-nil, take-at, drop-at}
+use lib.ListN.{length, take, drop, length-append, length-take, length-drop}
+use lib.Seq.{take-at, drop-at}
 use Rattle.arithmetic.specs.Numbers.{Numbers}
 use Rattle.arithmetic.proofs.Ring.{Ring, reduce-reduce}
-use Rattle.arithmetic.proofs.Solver.{Exp, var, con, _:+_, _:*_, _:-_, red, solve}
+use Rattle.arithmetic.proofs.Solver.{var, con, _:+_, _:*_, _:-_, red, solve}
 use Rattle.tables.specs.Multilinear.{blend, fixFirst, mle}
 use Rattle.tables.specs.Theorems.{combine}
 
@@ -94,7 +94,8 @@ module _ {K : Type 0} {N : Numbers K} (R : Ring N) where
       ap (λ l. mle N l z) (halved (length (combine N s t xs ys) / 2) (ap (λ n. n / 2) (combine-length s t xs ys e)) (ap (λ n. n / 2) (combine-length s t xs ys e ∙ e)))
       ∙ mle-combine z s t (fixFirst N r xs) (fixFirst N r ys) (fixFirst-length r xs ∙ ap (λ n. n / 2) e ∙ sym (fixFirst-length r ys))
     where
-      halved : (h : ℕ) → h ≡ length xs / 2 → h ≡ length ys / 2 → blend N r (take h (combine N s t xs ys)) (drop h (combine N s t xs ys)) ≡ combine N s t (fixFirst N r xs) (fixFirst N r ys)
+      halved : (h : ℕ) → h ≡ length xs / 2 → h ≡ length ys / 2 →
+          blend N r (take h (combine N s t xs ys)) (drop h (combine N s t xs ys)) ≡ combine N s t (fixFirst N r xs) (fixFirst N r ys)
       halved h f g =
           ap₂ (blend N r) (combine-take h s t xs ys) (combine-drop h s t xs ys)
           ∙ blend-combine r s t (take h xs) (drop h xs) (take h ys) (drop h ys)

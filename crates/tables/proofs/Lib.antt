@@ -6,3 +6,5 @@ pub mod ReducedLists
 pub mod HalvingSteps
 pub mod EqSteps
 pub mod DoublingSteps
+pub mod Points
+pub mod Theorems

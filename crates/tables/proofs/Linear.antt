@@ -7,7 +7,7 @@ use native.Mathlib.Nat.{zero-add, suc-add, suc-ne-zero, suc-inj}
 use lib.ListN.{length}
 use Rattle.arithmetic.specs.Numbers.{Numbers}
 use Rattle.arithmetic.proofs.Ring.{Ring, one-mul}
-use Rattle.arithmetic.proofs.Solver.{Exp, var, con, _:+_, _:*_, _:-_, red, solve}
+use Rattle.arithmetic.proofs.Solver.{var, con, _:+_, _:*_, _:-_, red, solve}
 use Rattle.tables.specs.Multilinear.{eqPoly, mle, fixFirst, sumCorners}
 use Rattle.tables.proofs.Corners.{sumCorners-same, sumCorners-scale}
 use Rattle.tables.proofs.Extension.{mle-first}
