@@ -9,7 +9,8 @@ use lib.Dec.{T}
 use lib.ListN.{length, getD, set, take, drop, length-append, length-take, length-drop, length-map}
 use lib.Pow.{pow-pos, pow-mono}
 use Rattle.std.specs.shelf.Lists.{between}
-use Rattle.std.proofs.shelf.Lists.{append-nil, length-take-le, getD-take, take-append-drop, take-take, take-at, drop-more, drop-all, drop-set-lt, set-at, getD-at, map-more}
+use Rattle.std.proofs.shelf.Lists.{append-nil, length-take-le, take-append-drop, take-take, take-at, drop-more, drop-all, drop-set-lt}
+use Rattle.std.proofs.shelf.Lists.{getD-take, getD-at, set-at, map-more}
 use Rattle.std.proofs.shelf.Parts.{drop-append-drop}
 use Rattle.arithmetic.specs.Numbers.{modulo, allReduced}
 use Rattle.arithmetic.proofs.Modulo.{ringModulo}
@@ -71,9 +72,11 @@ module _ {K : Type 0} (low high : K → K) where
       let same : half + i + 1 ≡ half + (i + 1) = omega arith in
       ap₂ (λ (m n : List K). set (set (map low (take i xs) ++ (m ++ (map high (take i xs) ++ n))) (half + i) (high x)) i (low x))
       (between-next d half i xs h (omega arith)) (drop-more xs (half + i) d l)
-      ∙ two-writes (map low (take i xs)) (between (i + 1) half xs) (map high (take i xs)) (drop (half + i + 1) xs) x (getD xs (half + i) d) (low x) (high x) half i
+      ∙ two-writes (map low (take i xs)) (between (i + 1) half xs) (map high (take i xs)) (drop (half + i + 1) xs)
+      x (getD xs (half + i) d) (low x) (high x) half i
       (front-length low i xs (omega arith)) (front-length high i xs (omega arith)) rest-length
-      ∙ ap₂ (λ (a c : List K). a ++ (between (i + 1) half xs ++ (c ++ drop (half + i + 1) xs))) (sym (map-more low xs i d inside)) (sym (map-more high xs i d inside))
+      ∙ ap₂ (λ (a c : List K). a ++ (between (i + 1) half xs ++ (c ++ drop (half + i + 1) xs)))
+      (sym (map-more low xs i d inside)) (sym (map-more high xs i d inside))
       ∙ ap (λ (n : ℕ). map low (take (i + 1) xs) ++ (between (i + 1) half xs ++ (map high (take (i + 1) xs) ++ drop n xs))) same
     where
       rest-length : suc i + length (between (i + 1) half xs) ≡ half
@@ -82,12 +85,13 @@ module _ {K : Type 0} (low high : K → K) where
   pub partly-all : (half : ℕ) (xs : List K) → length xs ≡ half + half → partlySplit half half xs ≡ map low (take half xs) ++ map high (take half xs)
   partly-all half xs e =
       let none : half - half ≡ 0 = omega arith in
-      ap₂ (λ (m : ℕ) (n : List K). map low (take half xs) ++ (take m (drop half xs) ++ (map high (take half xs) ++ n))) none (drop-all (half + half) xs (omega arith))
+      ap₂ (λ (m : ℕ) (n : List K). map low (take half xs) ++ (take m (drop half xs) ++ (map high (take half xs) ++ n)))
+      none (drop-all (half + half) xs (omega arith))
       ∙ ap (λ (m : List K). map low (take half xs) ++ m) (append-nil (map high (take half xs)))
 
 -- the number that a turn reads is as it was at the start, so reduced
-pub partly-below : (p : ℕ) → 0 < p → (low high : ℕ → ℕ) (half i : ℕ) (xs table : List ℕ) → table ≡ partlySplit low high half i xs → i < half → half ≤ length xs →
-    T (allReduced (modulo p) (take half xs)) → getD table i 0 < p
+pub partly-below : (p : ℕ) → 0 < p → (low high : ℕ → ℕ) (half i : ℕ) (xs table : List ℕ) →
+    table ≡ partlySplit low high half i xs → i < half → half ≤ length xs → T (allReduced (modulo p) (take half xs)) → getD table i 0 < p
 partly-below p positive low high half i xs table e h l t =
     subst (λ (x : ℕ). x < p)
     (sym (ap (λ (l : List ℕ). getD l i 0) e ∙ partly-at low high 0 half i xs h l ∙ sym (getD-take half xs i 0 h)))
@@ -193,7 +197,8 @@ module _ {p factor : ℕ} {point before out : List ℕ} {done len : ℕ} (h : Do
           simp (length-append, length-drop) (omega arith)
 
 -- at the end the table is that of the whole point; the first write lay within it
-pub doubling-all : {p factor : ℕ} {point : List ℕ} (xs : List ℕ) {out : List ℕ} {done len : ℕ} → Doubling p factor point (set xs 0 factor) out done len → done ≡ length point →
+pub doubling-all : {p factor : ℕ} {point : List ℕ} (xs : List ℕ) {out : List ℕ} {done len : ℕ} →
+    Doubling p factor point (set xs 0 factor) out done len → done ≡ length point →
     out ≡ scaledEqTable (modulo p) factor point ++ drop (2 ^ length point) xs
 doubling-all {p} {factor} {point} xs {out} {done} {len} h end =
     let none : length point - done ≡ 0 = omega arith in

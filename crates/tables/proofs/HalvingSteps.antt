@@ -8,7 +8,8 @@ use native.Mathlib.Numerals.{add-one}
 use native.Mathlib.Omega.{arith}
 use lib.Dec.{T, ltb, lt→ltb}
 use lib.ListN.{length, getD, set, take, drop, length-append, length-drop}
-use Rattle.std.proofs.shelf.Lists.{append-nil, length-take-le, take-append-drop, getD-take, set-at, getD-drop, getD-append-right, drop-more, drop-all, take-all, take-at, drop-at}
+use Rattle.std.proofs.shelf.Lists.{append-nil, length-take-le, take-append-drop, getD-take, set-at, getD-drop}
+use Rattle.std.proofs.shelf.Lists.{getD-append-right, drop-more, drop-all, take-all, take-at, drop-at}
 use Rattle.arithmetic.specs.Numbers.{Numbers, modulo, allReduced}
 use Rattle.arithmetic.proofs.Modulo.{ringModulo}
 use Rattle.arithmetic.proofs.Solver.{var, con, _:+_, _:*_, _:-_, solve}
@@ -69,7 +70,9 @@ module _ {K : Type 0} (N : Numbers K) where
       ∙ sym (append-assoc fixed (x ∷ []) (drop (i + 1) xs))
       ∙ ap (λ (l : List K). l ++ drop (i + 1) xs) (sym longer)
     where
-      longer : blend N r (take (i + 1) xs) (drop half xs) ≡ blend N r (take i xs) (drop half xs) ++ (onLine N r (getD xs i d) (getD xs (half + i) d) ∷ [])
+      longer :
+          blend N r (take (i + 1) xs) (drop half xs) ≡
+          blend N r (take i xs) (drop half xs) ++ (onLine N r (getD xs i d) (getD xs (half + i) d) ∷ [])
       longer =
           let second : i < length (drop half xs) = rw length-drop (omega arith) in
           ap (λ (n : ℕ). blend N r (take n xs) (drop half xs)) (add-one i)
@@ -85,9 +88,11 @@ blend-reduced p h r (x ∷ xs) (y ∷ ys) =
     (lt→ltb (onLine (modulo p) r x y) p (mod-lt _ h)) (blend-reduced p h r xs ys)
 
 -- a table stays reduced while it is halved
-pub partly-reduced : (p : ℕ) → 0 < p → (r half i : ℕ) (xs : List ℕ) → T (allReduced (modulo p) xs) → T (allReduced (modulo p) (partlyFixed (modulo p) r half i xs))
+pub partly-reduced : (p : ℕ) → 0 < p → (r half i : ℕ) (xs : List ℕ) → T (allReduced (modulo p) xs) →
+    T (allReduced (modulo p) (partlyFixed (modulo p) r half i xs))
 partly-reduced p h r half i xs t =
-    reduced-append p (blend (modulo p) r (take i xs) (drop half xs)) (drop i xs) (blend-reduced p h r (take i xs) (drop half xs)) (reduced-drop p i xs t)
+    reduced-append p (blend (modulo p) r (take i xs) (drop half xs)) (drop i xs)
+    (blend-reduced p h r (take i xs) (drop half xs)) (reduced-drop p i xs t)
 
 -- A table after the first i coordinates of a point: its first `len` numbers are live, and lead to the same value and the same words.
 pub record Halving (p : ℕ) (xs point table : List ℕ) (i len : ℕ) : Type 0 where
@@ -110,7 +115,8 @@ halving-none p xs point e t =
     }
 
 -- one coordinate more: `live` is what fixing it made of the live part, whose end is `end`
-pub halving-more : {p : ℕ} {xs point table : List ℕ} {i len : ℕ} → Halving p xs point table i len → (live : List ℕ) (end : ℕ) → end ≡ len → i < length point →
+pub halving-more : {p : ℕ} {xs point table : List ℕ} {i len : ℕ} →
+    Halving p xs point table i len → (live : List ℕ) (end : ℕ) → end ≡ len → i < length point →
     live ≡ fixFirst (modulo p) (getD point i 0) (take end table) ++ drop (length (take end table) / 2) (take end table) →
     T (allReduced (modulo p) live) →
     Halving p xs point (live ++ drop end table) (i + 1) (len / 2)
@@ -145,7 +151,9 @@ halving-more {p} {xs} {point} {table} {i} {len} h live end same inside e t =
     halved : len / 2 ≡ 2 ^ (length point - (i + 1))
     halved =
         let left : length point - i ≡ suc (length point - (i + 1)) = omega arith in
-        let twice : len ≡ 2 ^ (length point - (i + 1)) + 2 ^ (length point - (i + 1)) = h .size ∙ ap (λ (k : ℕ). 2 ^ k) left ∙ two-pow-succ (length point - (i + 1)) in
+        let twice : len ≡ 2 ^ (length point - (i + 1)) + 2 ^ (length point - (i + 1)) =
+        h .size ∙ ap (λ (k : ℕ). 2 ^ k) left ∙ two-pow-succ (length point - (i + 1))
+        in
         omega arith
 
     half-length : length fixed ≡ len / 2

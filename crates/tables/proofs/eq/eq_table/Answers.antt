@@ -16,6 +16,8 @@ returns g c =
     let several : 1 < p = omega (arith, g .M·Modular·met .above) in
     let one = scaled-one p several point in
     record {
-      words = subst (λ (es : List ℕ). c .eq-table-scaled .last .out ≡ es ++ drop (2 ^ length point) (c .args .out .now)) one (c .eq-table-scaled .ensures .words);
+      words =
+          subst (λ (es : List ℕ). c .eq-table-scaled .last .out ≡ es ++ drop (2 ^ length point) (c .args .out .now)) one
+          (c .eq-table-scaled .ensures .words);
       reduced = subst (λ (es : List ℕ). T (allReduced (modulo p) es)) one (c .eq-table-scaled .ensures .reduced);
     }
