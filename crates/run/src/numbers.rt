@@ -1,4 +1,5 @@
 // The numbers of a text: decimal, with spaces and line ends between them; lines that begin with # are passed over.
+// A carriage return, which some systems write before a line end, counts as a space.
 // A number too large for a word is read as the largest word, which is no number that any table or circuit may hold.
 ghost use mathlib.Core.Path.{_≡_};
 ghost use Prim.Native.Nat.{_+_, _*_, _≤_, min};
@@ -37,7 +38,7 @@ fn after(place: Place, byte: u8) -> Option<Place> {
         (_, b'\n') => Some(Place::LineStart),
         (Place::Comment, _) => Some(Place::Comment),
         (Place::LineStart, b'#') => Some(Place::Comment),
-        (_, b' ') => Some(Place::Between),
+        (_, b' ' | b'\r') => Some(Place::Between),
         (Place::Number(number), b'0'..=b'9') => Some(Place::Number(with_digit(
             number,
             byte - b'0',
