@@ -1,54 +1,23 @@
 // Working a circuit out, plainly: layer by layer from the inputs up, all copies of a layer side by side.
 // Proved safe; what it gives is tested.
-ghost use mathlib.Core.Bool.{cond};
 ghost use mathlib.Core.Path.{_≡_};
 ghost use Prim.Native.Nat.{_+_, _*_, _^_, _≤_, _<_};
-ghost use lib.Dec.{T, leb};
+ghost use lib.Dec.{T};
 ghost use lib.ListN.{length, getD};
 ghost use Rattle.std.specs.Options.{Cases as BySome};
+use crate::room::HEADER;
+use crate::room::MOST_BITS;
+use crate::room::at;
+use crate::room::outputs_len;
+use crate::room::power;
 
 const MODULUS: u64 = 2147483647;
-
-// copies and places of a layer take at most so many bits together
-const MOST_BITS: u32 = 16;
 
 const MOST_VALUES: usize = 65536;
 
 const MOST_LAYERS: u32 = 32;
 
 const MOST_WORDS: usize = 524288;
-
-// copies, inputs, how many layers
-const HEADER: usize = 3;
-
-// The word at a place, and 0 past the end.
-fn at(words: &[u32], place: usize) -> u32
-    ensures { λ r. ⌜ r ≡ getD (now (words .entry)) place 0 ⌝ }
-{
-    if place < words.len() { words[place] } else { 0 }
-}
-
-fn power(size: u32) -> usize
-    requires { ⌜ size ≤ 16 ⌝ }
-    ensures value { λ r. ⌜ r ≡ 2 ^ size ⌝ }
-    ensures limit { λ r. ⌜ r ≤ 65536 ⌝ }
-{
-    1 << size
-}
-
-// How many outputs a circuit has; 0 where its words are over the limit.
-pub fn outputs_len(words: &[u32]) -> usize
-    ensures value { λ r. ⌜ r ≡ cond (leb (getD (now (words .entry)) 0 0 + getD (now (words .entry)) 3 0) 16) (2 ^ (getD (now (words .entry)) 0 0 + getD (now (words .entry)) 3 0)) 0 ⌝ }
-    ensures limit { λ r. ⌜ r ≤ 65536 ⌝ }
-{
-    let copies = at(words, 0);
-    let size = at(words, HEADER);
-    if copies > MOST_BITS || size > MOST_BITS - copies {
-        0
-    } else {
-        power(copies + size)
-    }
-}
 
 // How many words the first layer takes; nothing where it is over the limits or cut short.
 fn layer_length(words: &[u32], copies: u32) -> Option<usize>

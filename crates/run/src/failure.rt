@@ -36,8 +36,8 @@ pub fn unreadable(error: io::Error) -> Failure {
     }
 }
 
-// A refusal is told on standard output, all else on standard error.
-pub fn tell(rt: &LibcRuntime, failure: &Failure) -> io::Result<()> {
+// A refusal goes to standard output, all else to standard error.
+pub fn report(rt: &LibcRuntime, failure: &Failure) -> io::Result<()> {
     match failure {
         Failure::Usage => eprintln!(rt, "usage: run CIRCUIT INPUTS"),
         Failure::Refused(number) => println!(rt, "no {number}"),

@@ -4,7 +4,9 @@ mod evaluate;
 mod failure;
 mod lines;
 mod numbers;
+mod room;
 
+use evaluate::run;
 use failure::Failure;
 use failure::FailureFromAlloc;
 use failure::FailureFromIo;
@@ -41,8 +43,8 @@ fn work(rt: &LibcRuntime) -> Result<(), Failure> {
     };
     let circuit = read_file(rt, circuit.as_str())?;
     let inputs = read_file(rt, inputs.as_str())?;
-    let mut room = vec![in rt.alloc(); 0u32; evaluate::outputs_len(circuit.as_slice())]?;
-    match evaluate::run(circuit.as_slice(), inputs.as_slice(), room.as_mut_slice()) {
+    let mut room = vec![in rt.alloc(); 0u32; room::outputs_len(circuit.as_slice())]?;
+    match run(circuit.as_slice(), inputs.as_slice(), room.as_mut_slice()) {
         0 => print_outputs(rt, room.as_slice()),
         number => Err(Failure::Refused(number)),
     }
@@ -51,7 +53,7 @@ fn work(rt: &LibcRuntime) -> Result<(), Failure> {
 fn main(rt: LibcRuntime) -> Result<(), Failure> {
     let done = work(&rt);
     if let Err(failure) = &done {
-        failure::tell(&rt, failure)?;
+        failure::report(&rt, failure)?;
     }
     done
 }

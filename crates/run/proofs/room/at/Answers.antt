@@ -1,6 +1,6 @@
 use mathlib.Core.Path.{sym}
 use Rattle.std.proofs.shelf.Lists.{getD-past}
-use Rattle.run.proofs.evaluate.at.Needs as need
+use Rattle.run.proofs.room.at.Needs as need
 
 -- past the end stands the default
 pub returns-else-place-words : need.returns-else-place-words
