@@ -2,4 +2,6 @@
 // Each main only moves lines.
 pub mod dice;
 pub mod failure;
+pub mod files;
+pub mod room;
 pub mod scanner;

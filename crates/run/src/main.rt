@@ -1,34 +1,30 @@
 // run CIRCUIT INPUTS: works a circuit out and prints its outputs, 16 in a line.
 // A refusal prints `no` and its number and ends with status 1.
-mod evaluate;
-mod failure;
-mod lines;
-mod numbers;
-mod room;
-
-use evaluate::run;
-use failure::Failure;
-use failure::FailureFromAlloc;
-use failure::FailureFromIo;
+use programs::failure;
+use programs::failure::Failure;
+use programs::failure::FailureFromAlloc;
+use programs::failure::FailureFromIo;
+use programs::files::read_file;
+use programs::files::refused;
+use programs::room::outputs_len;
 use std::env;
-use std::fs;
+use texts::written::write_lines;
 
-// The numbers of a file read whole. One that cannot be read holds nothing that could be numbers.
-fn read_file(rt: &LibcRuntime, path: &str) -> Result<Vec<u32>, Failure> {
-    match fs::read(rt, path) {
-        Ok(text) => numbers::read(rt.alloc(), text.as_slice()),
-        Err(error) => {
-            eprintln!(rt, "{path}: {error}")?;
-            Err(failure::unreadable(error))
+const USAGE: &str = "run CIRCUIT INPUTS";
+
+fn print_outputs(rt: &LibcRuntime, circuit: &[u32], inputs: &[u32]) -> Result<(), Failure> {
+    let len = match outputs_len(circuit) {
+        Ok(len) => len,
+        Err(refusal) => return Err(refused(refusal)),
+    };
+    let mut room = vec![in rt.alloc(); 0u32; len]?;
+    match circuits::run(circuit, inputs, room.as_mut_slice()) {
+        0 => {
+            rt.print(write_lines(rt.alloc(), room.as_slice())?)?;
+            Ok(())
         }
+        number => Err(Failure::Refused(number)),
     }
-}
-
-fn print_outputs(rt: &LibcRuntime, outputs: &[u32]) -> Result<(), Failure> {
-    for part in outputs.chunks(lines::IN_A_LINE) {
-        rt.println(lines::line(rt.alloc(), part)?)?;
-    }
-    Ok(())
 }
 
 fn work(rt: &LibcRuntime) -> Result<(), Failure> {
@@ -43,17 +39,13 @@ fn work(rt: &LibcRuntime) -> Result<(), Failure> {
     };
     let circuit = read_file(rt, circuit.as_str())?;
     let inputs = read_file(rt, inputs.as_str())?;
-    let mut room = vec![in rt.alloc(); 0u32; room::outputs_len(circuit.as_slice())]?;
-    match run(circuit.as_slice(), inputs.as_slice(), room.as_mut_slice()) {
-        0 => print_outputs(rt, room.as_slice()),
-        number => Err(Failure::Refused(number)),
-    }
+    print_outputs(rt, circuit.as_slice(), inputs.as_slice())
 }
 
 fn main(rt: LibcRuntime) -> Result<(), Failure> {
     let done = work(&rt);
     if let Err(failure) = &done {
-        failure::report(&rt, failure)?;
+        failure::tell(&rt, USAGE, failure)?;
     }
     done
 }
