@@ -1,0 +1,2 @@
+pub mod RoundSums
+pub mod RoundSteps
