@@ -1,5 +1,8 @@
 // Files of numbers that are read whole, and lines of them.
 // A file that cannot be read as numbers is a text of no known form: nothing else can be said of it.
+ghost use mathlib.Core.Path.{_≡_};
+ghost use Rattle.circuits.specs.Refusals.{numberOf};
+ghost use Rattle.programs.specs.declared.failure.Failure.{Failure};
 use crate::failure::Failure;
 use crate::failure::FailureFromIo;
 use circuits::Refusal;
@@ -17,7 +20,9 @@ fn text_failure(error: TextError) -> Failure {
 }
 
 // The failure that a refusal is.
-pub fn refused(refusal: Refusal) -> Failure {
+pub fn refused(refusal: Refusal) -> Failure
+    ensures { λ r. ⌜ r ≡ Failure.Refused (numberOf refusal) ⌝ }
+{
     Failure::Refused(refusal.number())
 }
 
