@@ -1,25 +1,22 @@
 -- What `house` prints, line by line: answers, and where a line is no coin, a refusal.
 -- It is given a prover, as a function of the coins so far, and the lines that hold the coins.
-use mathlib.Core.Bool.{cond}
 use mathlib.Core.List.{List, [], _∷_, _++_}
 use Prim.Native.Nat.{ℕ, zero, suc}
 use lib.Chars.{codes}
-use lib.Dec.{ltb}
 use Rattle.std.specs.Written.{decimal}
 use Rattle.std.specs.declared.option.Option.{Option}
-use Rattle.std.specs.declared.option.Option.the-variants.{Some, None}
 use Rattle.std.specs.declared.result.Result.{Result}
 use Rattle.std.specs.declared.result.Result.the-variants.{Ok, Err}
 use Rattle.arithmetic.specs.Numbers.{modulo}
 use Rattle.circuits.specs.Refusals.{numberOf}
 use Rattle.circuits.specs.declared.refusal.Refusal.{Refusal}
-use Rattle.circuits.specs.declared.refusal.Refusal.the-variants.{NotReduced, UnknownForm}
 use Rattle.circuits.specs.Circuit.{Circuit}
 use Rattle.circuits.specs.Words.{modulus}
 use Rattle.argument.specs.Sumcheck.{Prover, after}
 use Rattle.argument.specs.Argument.{firstCoins, layerCoins}
 use Rattle.argument.specs.Honest.{honest}
 use Rattle.texts.specs.Texts.{numbersOf, lineOf}
+use Rattle.programs.specs.OneNumber.{oneNumber, reducedOnly}
 
 pub data Uttered : Type 0 where
   answer : List ℕ → Uttered
@@ -31,10 +28,7 @@ utteredText (refusal n) = codes "no " ++ decimal n
 
 -- the coin in a line: a line that isn't one number is 5, a number of p or more 3
 abbrev pub coinHeard : Option (List ℕ) → Result ℕ Refusal
-coinHeard None = Err UnknownForm
-coinHeard (Some []) = Err UnknownForm
-coinHeard (Some (r ∷ [])) = cond (ltb r modulus) (Ok r) (Err NotReduced)
-coinHeard (Some (r ∷ s ∷ numbers)) = Err UnknownForm
+coinHeard numbers = reducedOnly (oneNumber numbers)
 
 abbrev pub goOn : Result ℕ Refusal → (ℕ → List Uttered) → List Uttered
 goOn (Ok r) go = go r

@@ -1,4 +1,5 @@
 pub mod Dice
 pub mod Judge
 pub mod House
+pub mod OneNumber
 pub mod Scanning

@@ -1,9 +1,9 @@
 // All that the programs do, as functions and small machines on values: a line in, a line out.
 // Each main only moves lines.
-pub mod coin;
 pub mod dice;
 pub mod failure;
 pub mod files;
+pub mod number;
 pub mod room;
 pub mod scanner;
 pub mod verdict;
