@@ -1,2 +1,15 @@
 pub mod ShiftAndSum
 pub mod Newton
+pub mod Ring
+pub mod Polynomial
+pub mod Solver
+pub mod Modulo
+pub mod Truth
+pub mod Field
+pub mod FieldModulo
+pub mod Counting
+pub mod Degree
+pub mod Roots
+pub mod Interpolation
+pub mod Agreement
+pub mod Theorems

@@ -1,3 +1,4 @@
 pub mod Numbers
 pub mod Counting
 pub mod Cubic
+pub mod Theorems
