@@ -1,1 +1,2 @@
 pub mod Multilinear
+pub mod Theorems

@@ -1,0 +1,6 @@
+pub mod Corners
+pub mod Extension
+pub mod Linear
+pub mod Places
+pub mod Points
+pub mod Theorems
