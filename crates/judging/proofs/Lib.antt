@@ -1,3 +1,4 @@
 pub mod Stepping
 pub mod Bridge
 pub mod Stopping
+pub mod Soundly
