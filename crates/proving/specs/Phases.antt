@@ -1,0 +1,81 @@
+-- What the prover's tables stand for in each phase of a layer: the sums that it answers with, in a form that takes one
+-- pass over the gates. First the copies' variables; then x; then y, x being fixed.
+use mathlib.Core.List.{List, [], _∷_, _++_}
+use Prim.Native.Nat.{ℕ, zero, suc, _+_}
+use lib.ListN.{getD, set}
+use Rattle.arithmetic.specs.Numbers.{Numbers}
+use Rattle.tables.specs.Multilinear.{mle, eqPoly, bitsOf}
+use Rattle.circuits.specs.Circuit.{Kind, sum, product, Gate, combine}
+use Rattle.argument.specs.Claims.{Share}
+
+module _ {K : Type 0} (N : Numbers K) where
+  open Numbers N using (add, mul, nat)
+
+  -- the weight of the gate at place i: the sum, over shares, of factor times eq at the gate's corner
+  unfoldable pub weight : ℕ → List (Share K) → ℕ → K
+  weight size [] i = nat 0
+  weight size (s ∷ ss) i = add (mul (s .factor) (eqPoly N (bitsOf N size i) (s .point))) (weight size ss i)
+
+  -- the weights of n gates from place i on
+  unfoldable pub weights : ℕ → List (Share K) → ℕ → ℕ → List K
+  weights size ss i zero = []
+  weights size ss i (suc n) = weight size ss i ∷ weights size ss (i + 1) n
+
+  -- ---- the copies' variables
+  -- the sum, over gates, of weight times the gate's value at the copies' point c, where v has the values below
+  unfoldable pub gateSum : ℕ → List Gate → List K → List K → List K → K
+  gateSum below [] ws v c = nat 0
+  gateSum below (g ∷ gs) [] v c = nat 0
+  gateSum below (g ∷ gs) (w ∷ ws) v c =
+      add
+      (mul w (combine N (g .kind) (mle N v (c ++ bitsOf N below (g .left))) (mle N v (c ++ bitsOf N below (g .right)))))
+      (gateSum below gs ws v c)
+
+  -- E(c) times that sum, where e is the table of E
+  abbrev pub copySum : ℕ → List Gate → List K → List K → List K → List K → K
+  copySum below gs ws e v c = mul (mle N e c) (gateSum below gs ws v c)
+
+  -- ---- the variables of x, and then those of y
+  -- V(z) H(z) + J(z), by three tables
+  abbrev pub productSum : List K → List K → List K → List K → K
+  productSum v h j z = add (mul (mle N v z) (mle N h z)) (mle N j z)
+
+  -- adds a number at a place of a table
+  abbrev pub addAt : List K → ℕ → K → List K
+  addAt table i a = set table i (add (getD table i (nat 0)) a)
+
+  -- what a gate of weight w adds to H and to J, where b is the other value: w (V + b) for a sum, w b V for a product
+  abbrev pub toProduct : Kind → K → K → K
+  toProduct sum w b = w
+  toProduct product w b = mul w b
+
+  abbrev pub toRest : Kind → K → K → K
+  toRest sum w b = mul w b
+  toRest product w b = nat 0
+
+  -- H and J for x: by the gates' left places, the other value being that of the right place
+  unfoldable pub gatherH : List Gate → List K → List K → List K → List K
+  gatherH [] ws v table = table
+  gatherH (g ∷ gs) [] v table = table
+  gatherH (g ∷ gs) (w ∷ ws) v table =
+      gatherH gs ws v (addAt table (g .left) (toProduct (g .kind) w (getD v (g .right) (nat 0))))
+
+  unfoldable pub gatherJ : List Gate → List K → List K → List K → List K
+  gatherJ [] ws v table = table
+  gatherJ (g ∷ gs) [] v table = table
+  gatherJ (g ∷ gs) (w ∷ ws) v table =
+      gatherJ gs ws v (addAt table (g .left) (toRest (g .kind) w (getD v (g .right) (nat 0))))
+
+  -- H and J for y: by the gates' right places, with weights times eq of the left place at x, which ex has for all places;
+  -- the other value is a, the value at x
+  unfoldable pub gatherHy : List Gate → List K → List K → K → List K → List K
+  gatherHy [] ws ex a table = table
+  gatherHy (g ∷ gs) [] ex a table = table
+  gatherHy (g ∷ gs) (w ∷ ws) ex a table =
+      gatherHy gs ws ex a (addAt table (g .right) (toProduct (g .kind) (mul w (getD ex (g .left) (nat 0))) a))
+
+  unfoldable pub gatherJy : List Gate → List K → List K → K → List K → List K
+  gatherJy [] ws ex a table = table
+  gatherJy (g ∷ gs) [] ex a table = table
+  gatherJy (g ∷ gs) (w ∷ ws) ex a table =
+      gatherJy gs ws ex a (addAt table (g .right) (toRest (g .kind) (mul w (getD ex (g .left) (nat 0))) a))
