@@ -4,3 +4,5 @@ pub mod Linear
 pub mod Places
 pub mod Points
 pub mod Theorems
+pub mod ReducedLists
+pub mod HalvingSteps
