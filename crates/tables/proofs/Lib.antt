@@ -6,3 +6,5 @@ pub mod Points
 pub mod Theorems
 pub mod ReducedLists
 pub mod HalvingSteps
+pub mod EqSteps
+pub mod DoublingSteps

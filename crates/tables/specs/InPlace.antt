@@ -23,15 +23,22 @@ module _ {K : Type 0} (N : Numbers K) where
   halvedAll xs [] = xs
   halvedAll xs (r ∷ point) = halvedAll (fixFirst N r xs) point ++ drop (length xs / 2) xs
 
-  -- each number e of a table as e - e r, and after all these each as e r
+  -- the two parts of a number: what is left of it, and r times it
+  abbrev pub lowPart : K → K → K
+  lowPart r e = sub e (mul e r)
+
+  abbrev pub highPart : K → K → K
+  highPart r e = mul e r
+
+  -- the low parts of a table's numbers, and after all these the high ones
   abbrev pub splitFirst : K → List K → List K
-  splitFirst r es = map (λ e. sub e (mul e r)) es ++ map (λ e. mul e r) es
+  splitFirst r es = map (lowPart r) es ++ map (highPart r) es
 
   -- eq at a point and each corner, in the order of places
-  abbrev pub eqTable : List K → List K
+  unfoldable pub eqTable : List K → List K
   eqTable point = map (λ place. eqPoly N (bitsOf N (length point) place) point) (counting 0 (2 ^ length point))
 
   -- the same, times a factor
-  abbrev pub scaledEqTable : K → List K → List K
+  unfoldable pub scaledEqTable : K → List K → List K
   scaledEqTable factor point =
       map (λ place. mul factor (eqPoly N (bitsOf N (length point) place) point)) (counting 0 (2 ^ length point))
