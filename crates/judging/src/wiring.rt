@@ -8,3 +8,4 @@ pub struct Wiring {
 }
 
 pub mod gather;
+pub mod weights;
