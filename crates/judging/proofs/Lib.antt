@@ -6,3 +6,5 @@ pub mod Worked
 pub mod Weights
 pub mod Gathering
 pub mod Cutting
+pub mod Adding
+pub mod Wires

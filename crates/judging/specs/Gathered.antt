@@ -5,6 +5,7 @@ use mathlib.Core.List.{List}
 use Prim.Native.Nat.{ℕ, _<_}
 use lib.ListN.{drop, getD}
 use Rattle.arithmetic.specs.Numbers.{modulo}
+use Rattle.tables.specs.Multilinear.{eqPoly, bitsOf}
 use Rattle.circuits.specs.Circuit.{Kind, sum, product, Gate}
 use Rattle.judging.specs.Sums.{weightedWiring}
 use Rattle.judging.specs.declared.wiring.Wiring.{Wiring}
@@ -16,5 +17,18 @@ wiringFrom p kind weights atX atY i gates =
 pub record Gathered (p : ℕ) (weights atX atY : List ℕ) (gates : List Gate) (i : ℕ) (w : Wiring) : Type 0 where
   pub sums : w .sums ≡ wiringFrom p sum weights atX atY i gates
   pub products : w .products ≡ wiringFrom p product weights atX atY i gates
+  pub sums-below : w .sums < p
+  pub products-below : w .products < p
+
+-- the same of all gates, at the points x and y of the values below
+abbrev pub wiringAt : ℕ → Kind → List ℕ → ℕ → List ℕ → List ℕ → List Gate → ℕ
+wiringAt p kind weights below x y gates =
+    let N = modulo p in
+    weightedWiring N kind (λ j. getD weights j 0) (λ j. eqPoly N (bitsOf N below j) x) (λ j. eqPoly N (bitsOf N below j) y) 0
+    gates
+
+pub record Wired (p : ℕ) (weights : List ℕ) (below : ℕ) (x y : List ℕ) (gates : List Gate) (w : Wiring) : Type 0 where
+  pub sums : w .sums ≡ wiringAt p sum weights below x y gates
+  pub products : w .products ≡ wiringAt p product weights below x y gates
   pub sums-below : w .sums < p
   pub products-below : w .products < p

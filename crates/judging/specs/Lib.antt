@@ -5,3 +5,4 @@ pub mod Examples
 pub mod Sums
 pub mod Gathered
 pub mod Meaning
+pub mod Shares

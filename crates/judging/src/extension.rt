@@ -12,6 +12,15 @@ use tables::halving::mle_at;
 // no table is larger
 pub const MOST_PLACES: usize = 65536;
 
+// How many places a table of so many variables has.
+pub fn places(variables: u32) -> usize
+    requires { ⌜ variables ≤ 16 ⌝ }
+    ensures value { λ r. ⌜ r ≡ 2 ^ variables ⌝ }
+    ensures limit { λ r. ⌜ r ≤ 65536 ⌝ }
+{
+    1 << variables
+}
+
 // In room that is just as long as the table.
 fn extension_in<M: Modular>(room: &mut [u32], values: &[u32], point: &[u32]) -> u32
     requires room { ⌜ length (now room) ≡ length (now values) ⌝ }

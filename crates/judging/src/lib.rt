@@ -3,6 +3,7 @@
 mod claim;
 mod cut;
 mod extension;
+mod share;
 pub mod theorems;
 pub mod verdict;
 pub mod verifier;

@@ -8,4 +8,5 @@ pub struct Wiring {
 }
 
 pub mod gather;
+pub mod layer;
 pub mod weights;
