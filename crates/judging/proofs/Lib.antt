@@ -8,3 +8,4 @@ pub mod Gathering
 pub mod Cutting
 pub mod Adding
 pub mod Wires
+pub mod Summing

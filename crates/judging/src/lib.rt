@@ -4,6 +4,7 @@ mod claim;
 mod cut;
 mod extension;
 mod share;
+mod sums;
 pub mod theorems;
 pub mod verdict;
 pub mod verifier;
