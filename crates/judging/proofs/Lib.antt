@@ -9,3 +9,4 @@ pub mod Cutting
 pub mod Adding
 pub mod Wires
 pub mod Summing
+pub mod Limits

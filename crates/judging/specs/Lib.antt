@@ -6,3 +6,4 @@ pub mod Sums
 pub mod Gathered
 pub mod Meaning
 pub mod Shares
+pub mod Answers

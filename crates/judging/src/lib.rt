@@ -1,5 +1,6 @@
 // The verifier: a machine that goes step by step, and the call that judges a whole transcript by it.
 // One piece of code judges, whether words lie side by side or come one by one.
+pub mod answer;
 mod claim;
 mod cut;
 mod extension;

@@ -12,6 +12,9 @@ ghost use Rattle.judging.specs.Machine.{variables};
 use crate::claim::Claim;
 use circuits::LayersView;
 
+mod due;
+mod moves;
+
 // a layer's sum has at most so many variables
 pub const MOST_VARIABLES: usize = 32;
 
