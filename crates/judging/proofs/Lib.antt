@@ -10,3 +10,5 @@ pub mod Adding
 pub mod Wires
 pub mod Summing
 pub mod Limits
+pub mod PointParts
+pub mod Reading

@@ -6,13 +6,14 @@ use mathlib.Core.List.{List, [], _∷_, _++_}
 use Prim.Native.Nat.{ℕ, zero, suc, _+_, _≤_, _<_}
 use lib.Dec.{ltb}
 use lib.ListN.{length, drop, getD}
-use Rattle.std.proofs.shelf.Tests.{lt-ltb, le-ltb, cond-true, cond-false}
+use Rattle.std.proofs.shelf.Tests.{lt-ltb, le-ltb, ltb-true, ltb-false, cond-true, cond-false}
 use Rattle.arithmetic.specs.Numbers.{Numbers}
 use Rattle.arithmetic.specs.Cubic.{interpolate}
 use Rattle.argument.specs.Sumcheck.{Prover, after}
+use Rattle.judging.specs.declared.verdict.Place.the-variants.{Variable, Values}
 use Rattle.judging.specs.declared.verdict.Verdict.{Verdict}
 use Rattle.judging.specs.declared.verdict.Verdict.the-variants.{Believed, Stopped}
-use Rattle.judging.specs.Machine.{isBelieved, Stand, afterVariable, afterValues, variables, variableDue, fitsVariable, fitsValues, fits, next, doubt, settled, resume}
+use Rattle.judging.specs.Machine.{isBelieved, Stand, afterVariable, afterValues, variables, variablesOf, variableDue, fitsVariable, fitsValues, fits, next, doubt, settled, resume}
 
 -- the prover that says these answers in turn
 abbrev pub said : {K : Type 0} → List (List K) → Prover K
@@ -36,6 +37,23 @@ Due s = length (s .point) < variables (s .copies) (s .inputs) (s .layers)
 
 abbrev pub Done : {K : Type 0} → Stand K → Type 0
 Done s = variables (s .copies) (s .inputs) (s .layers) ≤ length (s .point)
+
+-- what is due, from the test that the code makes
+pub due-is : {K : Type 0} (s : Stand K) (b : Bool) → b ≡ variableDue s → b ≡ true → Due s
+due-is s b e h = ltb-true (length (s .point)) (variablesOf s) (sym e ∙ h)
+
+pub done-is : {K : Type 0} (s : Stand K) (b : Bool) → b ≡ variableDue s → b ≡ false → Done s
+done-is s b e h = ltb-false (length (s .point)) (variablesOf s) (sym e ∙ h)
+
+pub doubt-due : {K : Type 0} (s : Stand K) (n : ℕ) → Due s → length (s .point) ≡ n → Stopped (s .layer) (Variable n) ≡ doubt s
+unfolding doubt
+doubt-due s n h e =
+    ap (λ (k : ℕ). Stopped (s .layer) (Variable k)) (sym e) ∙
+    ap (Stopped (s .layer)) (sym (cond-true (variableDue s) (Variable (length (s .point))) Values (lt-ltb _ _ h)))
+
+pub doubt-done : {K : Type 0} (s : Stand K) → Done s → Stopped (s .layer) Values ≡ doubt s
+unfolding doubt
+doubt-done s h = ap (Stopped (s .layer)) (sym (cond-false (variableDue s) (Variable (length (s .point))) Values (le-ltb _ _ h)))
 
 module _ {K : Type 0} (N : Numbers K) where
   pub fits-due : (s : Stand K) (a : List K) → Due s → fits N s a ≡ fitsVariable N s a

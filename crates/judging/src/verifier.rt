@@ -13,7 +13,9 @@ use crate::claim::Claim;
 use circuits::LayersView;
 
 mod due;
+mod expect;
 mod moves;
+mod read;
 
 // a layer's sum has at most so many variables
 pub const MOST_VARIABLES: usize = 32;
