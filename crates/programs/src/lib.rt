@@ -6,4 +6,5 @@ pub mod files;
 pub mod number;
 pub mod room;
 pub mod scanner;
+pub mod stream;
 pub mod verdict;
