@@ -1,3 +1,4 @@
+-- Each turn asks one more number, as the definition does.
 use mathlib.Core.Path.{refl, sym, _∙_}
 use Rattle.circuits.proofs.Reduced.{reduced-on, reduced-off, reduced-all}
 use Rattle.circuits.proofs.outputs.check_reduced.Needs as need

@@ -1,3 +1,4 @@
+-- The numbers that are left answer as all of them do.
 use mathlib.Core.Path.{_≡_}
 use lib.ListN.{drop}
 use Rattle.arithmetic.specs.Numbers.{modulo, allReduced}

@@ -1,8 +1,10 @@
+-- The layers below leave their values at the front of the spare room, and the first layer is worked out over those.
 use mathlib.Core.List.{List, [], _∷_}
 use mathlib.Core.Path.{_≡_, sym, ap, ap₂, subst, _∙_}
-use Prim.Native.Nat.{ℕ, _-_, _*_, _^_, _<_, _≤_}
+use Prim.Native.Nat.{ℕ, _-_, _*_, _^_, _<_}
 use native.Mathlib.Nat.{sub-zero}
 use native.Mathlib.Omega.{arith}
+use borrow.Rule.Slice.PartMut.{postOf}
 use lib.ListN.{length, take, drop, getD}
 use Rattle.std.proofs.shelf.Lists.{drop-more}
 use Rattle.arithmetic.specs.Numbers.{Numbers, modulo}
@@ -58,7 +60,7 @@ layer-values-requires g t c κs =
 pub returns-then-count-eq0 : need.returns-then-count-eq0
 returns-then-count-eq0 g t c =
     let v = c .args .layers in
-    none-over (modulo (g .M·Modular .modulus)) (layersSeen v) (v .copies) (v .inputs) (c .args .inputs .now) (c .copy-from-slice .last .self) _
+    none-over (modulo (g .M·Modular .modulus)) (layersSeen v) (v .copies) (v .inputs) (c .args .inputs .now) (c .copy-from-slice .last .self) (postOf 0 (length (c .args .inputs .now) - 0) (c .args .values .now))
     (omega arith) (c .pre .inputs) (c .copy-from-slice .ensures .after)
 
 pub returns-else-count-eq0 : need.returns-else-count-eq0
@@ -77,4 +79,4 @@ returns-else-count-eq0 g t c =
     let new : c .layer-values .last .values ≡ allValues N (layerSeen (c .first .result) ∷ []) (2 ^ sizeBelow (layersSeen r) (v .inputs)) (2 ^ v .copies) (take (c .value-count .result - 0) spare) =
     c .layer-values .ensures ∙ ap₂ (λ x y. allValues N (layerSeen (c .first .result) ∷ []) (2 ^ x) (2 ^ y) (take (c .value-count .result - 0) spare)) a (c .copies .ensures .value) in
     first-over N (layersSeen v) (layersSeen r) (layerSeen (c .first .result)) (v .copies) (v .inputs) vs (take (c .value-count .result - 0) spare)
-    (c .layer-values .last .values) _ e (parts .fits) (c .pre .inputs) left new
+    (c .layer-values .last .values) (postOf 0 (c .value-count-made .result - 0) (c .work-out .last .spare)) e (parts .fits) (c .pre .inputs) left new
