@@ -1,6 +1,6 @@
 // Numbers as text: read from bytes, and written as lines of decimal numbers.
 // specs/Texts.antt says which numbers a text holds, and which text numbers are written as.
-pub mod digits;
+mod digits;
 pub mod error;
 pub mod line;
 pub mod lines;
@@ -8,5 +8,5 @@ pub mod reader;
 #[cfg(test)]
 mod tests;
 pub mod whole;
-pub mod words;
+mod words;
 pub mod written;
