@@ -1,6 +1,6 @@
 // Numbers as text: read from bytes, and written as lines of decimal numbers.
 // specs/Texts.antt says which numbers a text holds, and which text numbers are written as.
-mod digits;
+pub mod digits;
 pub mod error;
 pub mod line;
 pub mod lines;

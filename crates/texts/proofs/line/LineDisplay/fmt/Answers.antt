@@ -1,3 +1,5 @@
+-- Each turn writes a gap and a number, and so the line of one number more.
+-- At the end it is the line of all.
 use mathlib.Core.Path.{_≡_, refl, sym, ap, subst, _∙_}
 use mathlib.Core.List.{List, [], _∷_, _++_}
 use Prim.Native.Nat.{ℕ, _+_}

@@ -1,3 +1,4 @@
+-- Each turn writes one line and its end; where nothing is left, all lines are written.
 use mathlib.Core.Path.{_≡_, refl, sym, ap, _∙_}
 use mathlib.Core.List.{List, [], _∷_, _++_}
 use mathlib.Core.Logic.{_≢_}
