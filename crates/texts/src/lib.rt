@@ -8,5 +8,5 @@ pub mod reader;
 #[cfg(test)]
 mod tests;
 pub mod whole;
-pub mod words;
+mod words;
 pub mod written;

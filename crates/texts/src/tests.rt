@@ -24,43 +24,55 @@ fn first(text: &[u8]) -> Result<u32, TextError> {
 
 #[test]
 fn texts_and_their_gaps() -> Result<(), Fail> {
-    check_eq(count(b""), Ok(0))?;
-    check_eq(count(b" \n\r\n "), Ok(0))?;
-    check_eq(count(b"#"), Ok(0))?;
-    check_eq(count(b"# 1 two\n#3\n"), Ok(0))?;
-    check_eq(count(b"7 8\n# nine\n10"), Ok(3))?;
-    check_eq(count(b"1\r\n2\r\n"), Ok(2))?;
+    let texts: [(&[u8], usize); 6] = [
+        (b"", 0),
+        (b" \n\r\n ", 0),
+        (b"#", 0),
+        (b"# 1 two\n#3\n", 0),
+        (b"7 8\n# nine\n10", 3),
+        (b"1\r\n2\r\n", 2),
+    ];
+    for (text, numbers) in texts {
+        check_eq(count(text), Ok(numbers))?;
+    }
     check_eq(count(b"1 2 3 4 5"), Err(TextError::TooMany))
 }
 
 #[test]
 fn words_that_are_no_numbers() -> Result<(), Fail> {
-    check_eq(count(b"12a"), Err(TextError::NoNumber))?;
-    check_eq(count(b"-1"), Err(TextError::NoNumber))?;
-    check_eq(count(b"1\t2"), Err(TextError::NoNumber))?;
-    check_eq(count(b"1 #2"), Err(TextError::NoNumber))?;
-    check_eq(count(b" # spaced"), Err(TextError::NoNumber))?;
-    check_eq(count(b"1 2 3 4 5 six"), Err(TextError::NoNumber))?;
+    let texts: [&[u8]; 6] = [
+        b"12a",
+        b"-1",
+        b"1\t2",
+        b"1 #2",
+        b" # spaced",
+        b"1 2 3 4 5 six",
+    ];
+    for text in texts {
+        check_eq(count(text), Err(TextError::NoNumber))?;
+    }
     check_eq(TextError::NoNumber.refusal(), Some(5))
 }
 
 #[test]
 fn numbers_at_the_edge() -> Result<(), Fail> {
-    check_eq(first(b"007"), Ok(7))?;
-    check_eq(first(b"4294967295"), Ok(4294967295))?;
-    check_eq(first(b"4294967296"), Ok(4294967295))?;
-    check_eq(
-        first(
+    let texts: [(&[u8], u32); 5] = [
+        (b"007", 7),
+        (b"4294967295", 4294967295),
+        (b"4294967296", 4294967295),
+        (
             b"1000000000000000000000000000000000000000000000000000000000000000000000000000000000000000000000000000",
+            4294967295,
         ),
-        Ok(4294967295),
-    )?;
-    check_eq(
-        first(
+        (
             b"0000000000000000000000000000000000000000000000000000000000000000000000000000000000000000000000000042",
+            42,
         ),
-        Ok(42),
-    )
+    ];
+    for (text, number) in texts {
+        check_eq(first(text), Ok(number))?;
+    }
+    Ok(())
 }
 
 #[test]

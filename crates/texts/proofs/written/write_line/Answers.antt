@@ -1,3 +1,4 @@
+-- What the line shows is the text, and the theorem on reading it again holds.
 use borrow.Author.Needs.{needs}
 use Rattle.texts.proofs.RoundTrip.{round-trip as read-again}
 use Rattle.texts.proofs.written.write_line.Needs as need
