@@ -15,7 +15,7 @@ use Rattle.circuits.specs.Views.{noLayer}
 use Rattle.circuits.specs.Words.{modulus}
 use Rattle.argument.specs.Claims.{Claim, expected}
 use Rattle.judging.specs.declared.verifier.Verifier.{Verifier}
-use Rattle.judging.specs.Machine.{variables, variablesOf, sizeUnder, pointC, pointX, pointY, expectedOf}
+use Rattle.judging.specs.Machine.{standAt, variables, variablesOf, sizeUnder, pointC, pointX, pointY, expectedOf}
 use Rattle.judging.specs.Meaning.{standOf}
 use Rattle.judging.proofs.Cutting.{reduced-part}
 
@@ -64,3 +64,29 @@ part-reduced from len xs e = T-of-path _ (reduced-part modulus from len xs e)
 
 pub part-length : (from len : ℕ) (xs : List ℕ) → from + len ≤ length xs → length (take len (drop from xs)) ≡ len
 part-length from len xs h = length-take-le len (drop from xs) (let room : len ≤ length (drop from xs) = omega (arith, length-drop from xs) in room)
+
+-- what was cut out for a point, at the sizes that the point has
+pub cut-is : (n n′ from from′ : ℕ) (r xs : List ℕ) → take n r ≡ take n (drop from xs) → n ≡ n′ → from ≡ from′ → take n′ r ≡ take n′ (drop from′ xs)
+cut-is n n′ from from′ r xs h e f = ap (λ (m : ℕ). take m r) (sym e) ∙ h ∙ ap₂ (λ (m k : ℕ). take m (drop k xs)) e f
+
+-- a claim with shares 1 at x and s at y
+abbrev pub twoShares : List ℕ → List ℕ → List ℕ → ℕ → ℕ → Claim ℕ
+twoShares c x y s t =
+    record { copy = c; shares = record { factor = 1; point = x } ∷ record { factor = s; point = y } ∷ []; total = t }
+
+pub same-shares : (c c′ x x′ y y′ : List ℕ) (s t t′ : ℕ) → c ≡ c′ → x ≡ x′ → y ≡ y′ → t ≡ t′ → twoShares c x y s t ≡ twoShares c′ x′ y′ s t′
+same-shares c c′ x x′ y y′ s t t′ ec ex ey et = λ i. twoShares (ec i) (ex i) (ey i) s (et i)
+
+-- a claim with one share, and where the machine begins with it
+abbrev pub oneShare : List ℕ → List ℕ → ℕ → Claim ℕ
+oneShare c x t = record { copy = c; shares = record { factor = 1; point = x } ∷ []; total = t }
+
+pub same-start :
+    (copies copies′ inputs inputs′ : ℕ) (ls ls′ : List Layer) (c c′ x x′ : List ℕ) (t t′ : ℕ) → copies ≡ copies′ → inputs ≡ inputs′ →
+    ls ≡ ls′ → c ≡ c′ → x ≡ x′ → t ≡ t′ → standAt copies inputs 0 ls (oneShare c x t) ≡ standAt copies′ inputs′ 0 ls′ (oneShare c′ x′ t′)
+same-start copies copies′ inputs inputs′ ls ls′ c c′ x x′ t t′ ek ei el ec ex et =
+    λ i. standAt (ek i) (ei i) 0 (el i) (oneShare (ec i) (ex i) (et i))
+
+pub no-layer : (ls : List Layer) (inputs : ℕ) → length ls ≡ 0 → sizeBelow ls inputs ≡ inputs
+no-layer [] inputs e = refl
+no-layer (l ∷ ls) inputs e = absurd (omega arith)

@@ -16,6 +16,9 @@ mod due;
 mod expect;
 mod moves;
 mod read;
+mod settle;
+mod start;
+mod step;
 
 // a layer's sum has at most so many variables
 pub const MOST_VARIABLES: usize = 32;

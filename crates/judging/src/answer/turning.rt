@@ -38,3 +38,13 @@ impl Answer {
         let Answer { numbers: _ } = self;
     }
 }
+
+impl Coin {
+    // The answer that the coin fell for, and its number: only a step of the verifier spends a coin.
+    pub(crate) fn spend(self) -> (Numbers, u32)
+        ensures { λ r. ⌜ (numbersSeen (r .0) ≡ coinAnswer self) × (r .1 ≡ coinWord self) × (r .1 < modulus) ⌝ }
+    {
+        let Coin { numbers, word } = self;
+        (numbers, word)
+    }
+}

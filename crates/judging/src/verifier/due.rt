@@ -17,7 +17,7 @@ impl<'a> Verifier<'a> {
     }
 
     // How many variables each of x and y has.
-    pub fn size_below(&self) -> usize
+    pub(super) fn size_below(&self) -> usize
         requires { ⌜ 0 < length (standOf (now self) .layers) ⌝ }
         ensures value { λ r. ⌜ r ≡ sizeUnder (standOf (now (self .entry))) ⌝ }
         ensures limit { λ r. ⌜ standOf (now (self .entry)) .copies + r ≤ 16 ⌝ }
