@@ -1,2 +1,3 @@
 mod LowBits
 mod ScanSteps
+mod HeardLines

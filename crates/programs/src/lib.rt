@@ -3,6 +3,7 @@
 pub mod dice;
 pub mod failure;
 pub mod files;
+pub mod hearing;
 pub mod number;
 pub mod room;
 pub mod scanner;
