@@ -4,6 +4,7 @@ pub mod dice;
 pub mod failure;
 pub mod files;
 pub mod hearing;
+pub mod held;
 pub mod number;
 pub mod room;
 pub mod scanner;
