@@ -54,6 +54,15 @@ heard-read s o ns said (Err v) e p h =
     λ go. heard-unfit s o ns e go (ap (fits (modulo modulus) s) (sym p) ∙ h .1)
     ∙ ap (λ (w : Verdict). verdict w ∷ []) (sym (h .0))
 
+-- and an answer that was read fits
+pub read-fits :
+    (s : Stand ℕ) (said : List ℕ) (r : Result Answer Verdict) →
+    Cases r (λ a. (answerSeen a ≡ said) × (fits (modulo modulus) s said ≡ true))
+    (λ v. (v ≡ doubt s) × (fits (modulo modulus) s said ≡ false)) →
+    Cases r (λ a. fits (modulo modulus) s (answerSeen a) ≡ true) (λ _. Unit {0})
+read-fits s said (Ok a) h = ap (fits (modulo modulus) s) (h .0) ∙ h .1
+read-fits s said (Err v) h = tt
+
 -- the line gave no numbers, or too many
 pub heard-unread :
     (s : Stand ℕ) (line room filled : List ℕ) (e : TextError) (v : Verdict) → ReadInto line room (Err e) filled →

@@ -5,6 +5,7 @@ pub mod failure;
 pub mod files;
 pub mod hearing;
 pub mod held;
+pub mod lines;
 pub mod number;
 pub mod room;
 pub mod scanner;
