@@ -1,1 +1,3 @@
 mod LowBits
+mod ScanSteps
+mod HeardLines

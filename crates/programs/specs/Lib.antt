@@ -1,3 +1,6 @@
 pub mod Dice
 pub mod Judge
+pub mod Held
 pub mod House
+pub mod OneNumber
+pub mod Scanning

@@ -2,3 +2,11 @@
 // Each main only moves lines.
 pub mod dice;
 pub mod failure;
+pub mod files;
+pub mod hearing;
+pub mod held;
+pub mod number;
+pub mod room;
+pub mod scanner;
+pub mod stream;
+pub mod verdict;
