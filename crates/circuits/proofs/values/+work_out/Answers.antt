@@ -5,19 +5,14 @@ use Prim.Native.Nat.{ℕ, _-_, _*_, _^_, _<_}
 use native.Mathlib.Nat.{sub-zero}
 use native.Mathlib.Omega.{arith}
 use borrow.Rule.Slice.PartMut.{postOf}
-use lib.ListN.{length, take, drop, getD}
-use Rattle.std.proofs.shelf.Lists.{drop-more}
+use lib.ListN.{length, take}
 use Rattle.arithmetic.specs.Numbers.{Numbers, modulo}
 use Rattle.circuits.specs.Circuit.{Layer, sizeBelow, allValues}
 use Rattle.circuits.specs.Values.{EachBelow}
-use Rattle.circuits.specs.Views.{layersSeen, layerSeen, sizeSeen, placesBelow, noLayer}
-use Rattle.circuits.proofs.Parts.{layers-parts}
+use Rattle.circuits.specs.Views.{layersSeen, layerSeen, sizeSeen, placesBelow}
+use Rattle.circuits.proofs.Parts.{layers-parts, parted}
 use Rattle.circuits.proofs.WorkingOut.{count-limit, front-length, first-over, none-over, all-below}
 use Rattle.circuits.proofs.values.+work_out.Needs as need
-
--- the first of some layers, and the others
-parted : (ls rest : List Layer) (l : Layer) → 0 < length ls → l ≡ getD ls 0 noLayer → rest ≡ drop 1 ls → ls ≡ l ∷ rest
-parted ls rest l some e f = drop-more ls 0 noLayer some ∙ ap₂ (λ x y. x ∷ y) (sym e) (sym f)
 
 -- what the layers below left at the front of the spare room
 left-below : (N : Numbers ℕ) (rest : List Layer) (copies inputs c i count : ℕ) (vs spare : List ℕ) → c ≡ copies → i ≡ inputs →
