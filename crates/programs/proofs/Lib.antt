@@ -1,2 +1,4 @@
 mod LowBits
 mod ScanSteps
+mod CoinsLeft
+mod BelievedOnly

@@ -3,3 +3,4 @@ pub mod Judge
 pub mod House
 pub mod OneNumber
 pub mod Scanning
+pub mod Theorems

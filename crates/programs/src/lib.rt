@@ -4,6 +4,7 @@ pub mod dice;
 pub mod failure;
 pub mod files;
 pub mod number;
+pub mod promises;
 pub mod room;
 pub mod scanner;
 pub mod verdict;
