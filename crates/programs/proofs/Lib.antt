@@ -2,3 +2,5 @@ mod LowBits
 mod ScanSteps
 mod CoinsLeft
 mod BelievedOnly
+mod RightTalk
+mod HonestTalk
