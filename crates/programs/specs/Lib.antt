@@ -4,3 +4,4 @@ pub mod Held
 pub mod House
 pub mod OneNumber
 pub mod Scanning
+pub mod Theorems

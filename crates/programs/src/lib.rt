@@ -7,6 +7,7 @@ pub mod hearing;
 pub mod held;
 pub mod lines;
 pub mod number;
+pub mod promises;
 pub mod room;
 pub mod scanner;
 pub mod stream;
