@@ -35,7 +35,7 @@ const MOST_FIRST_COINS: usize = 16;
 // Draws the first coins; each is printed once it is known to be one.
 fn draw_first(rt: &LibcRuntime, dice: &mut Dice, coins: &mut [u32]) -> Result<(), Failure> {
     for coin in coins.iter_mut() {
-        let word = dice.due()?;
+        let word = dice.due(rt)?;
         check_reduced::<Mersenne31>(&[word])?;
         println!(rt, "{word}")?;
         *coin = word;
@@ -54,7 +54,7 @@ fn turn(
 {
     match hear(verifier, line) {
         Err(verdict) => Ok(Some(verdict)),
-        Ok(answer) => match dice.due() {
+        Ok(answer) => match dice.due(rt) {
             Err(failure) => {
                 answer.lapse();
                 Err(failure)
@@ -104,7 +104,7 @@ fn conclude(
     let line = VerdictLine { verdict };
     match verdict {
         Verdict::Believed => {
-            dice.close()?;
+            dice.close(rt)?;
             println!(rt, "{line}")?;
             Ok(())
         }

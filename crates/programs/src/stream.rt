@@ -62,7 +62,7 @@ impl Dice {
     }
 
     // Reads on to the byte that ends the next word.
-    pub fn draw(&mut self) -> io::Result<Drawn> {
+    fn draw(&mut self) -> io::Result<Drawn> {
         for _ in 0..u64::MAX {
             let Some(byte) = self.byte()? else {
                 return Ok(self.end());
@@ -78,10 +78,21 @@ impl Dice {
         Ok(Drawn::End)
     }
 
+    // The next word; a file that cannot be read holds none that is a number, and the reason goes to standard error.
+    fn word(&mut self, rt: &LibcRuntime) -> Result<Drawn, Failure> {
+        match self.draw() {
+            Ok(drawn) => Ok(drawn),
+            Err(error) => {
+                eprintln!(rt, "{error}")?;
+                Ok(Drawn::NoNumber)
+            }
+        }
+    }
+
     // The coin that is due: 2 where none is left, 5 where the next word is no number. Whether it is below the modulus is
     // for the verifier to say.
-    pub fn due(&mut self) -> Result<u32, Failure> {
-        match self.draw()? {
+    pub fn due(&mut self, rt: &LibcRuntime) -> Result<u32, Failure> {
+        match self.word(rt)? {
             Drawn::Number(number) => Ok(number),
             Drawn::NoNumber => Err(refused(Refusal::UnknownForm)),
             Drawn::End => Err(refused(Refusal::WrongCount)),
@@ -89,8 +100,8 @@ impl Dice {
     }
 
     // That nothing is left: 2 where a number is, 5 where a word is that is none.
-    pub fn close(&mut self) -> Result<(), Failure> {
-        match self.draw()? {
+    pub fn close(&mut self, rt: &LibcRuntime) -> Result<(), Failure> {
+        match self.word(rt)? {
             Drawn::Number(_) => Err(refused(Refusal::WrongCount)),
             Drawn::NoNumber => Err(refused(Refusal::UnknownForm)),
             Drawn::End => Ok(()),
