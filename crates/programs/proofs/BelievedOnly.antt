@@ -1,20 +1,18 @@
 -- The judge prints `believed` only where the argument is accepted, with the coins of DICE and the answers of the lines.
 -- Line by line: whatever else comes first, a refusal or a doubt, is the last that is printed.
 use mathlib.Core.Path.{_≡_, refl, sym, _∙_, ap, subst}
-use mathlib.Core.Bool.{Bool, true, false, cond, _&&_}
+use mathlib.Core.Bool.{Bool, true, false, cond}
 use mathlib.Core.List.{List, [], _∷_, _++_, map}
-use Prim.Native.Nat.{ℕ, zero, suc, _+_, _<_}
+use Prim.Native.Nat.{ℕ, zero, suc, _<_}
 use native.Mathlib.Omega.{arith}
-use lib.Dec.{T, ltb}
-use lib.ListN.{length, take, drop, getD}
-use Rattle.std.specs.shelf.Lists.{Has}
+use lib.Dec.{ltb}
+use lib.ListN.{length, getD}
 use Rattle.std.specs.declared.option.Option.{Option}
 use Rattle.std.specs.declared.option.Option.the-variants.{Some, None}
 use Rattle.std.proofs.shelf.Lists.{append-nil, append-assoc, map-append, length-append, take-at, drop-at}
 use Rattle.std.proofs.shelf.Tests.{and-parts, and-from, cond-true, true≢false, false≢true}
-use Rattle.arithmetic.specs.Numbers.{Numbers, modulo, allReduced}
+use Rattle.arithmetic.specs.Numbers.{allReduced}
 use Rattle.arithmetic.proofs.Truth.{T-of-path}
-use Rattle.circuits.specs.Circuit.{Circuit}
 use Rattle.circuits.specs.Words.{modulus}
 use Rattle.argument.specs.Argument.{firstCoins, layerCoins, coinsOf, accepts}
 use Rattle.argument.specs.Transcript.{written}
@@ -22,14 +20,12 @@ use Rattle.judging.specs.declared.verdict.Verdict.{Verdict}
 use Rattle.judging.specs.declared.verdict.Verdict.the-variants.{Believed, Stopped}
 use Rattle.judging.specs.Machine.{isBelieved, Stand, fits, next, doubt, settled, resume, start}
 use Rattle.judging.specs.Machine as machine
+use Rattle.judging.specs.Meaning.{numbers as N}
 use Rattle.judging.proofs.Bridge.{machine-believes}
 use Rattle.texts.specs.Texts.{numbersOf}
-use Rattle.programs.specs.Judge.{Said, coin, verdict, refusal, drawn, closed, atInputs, ending, heard, talk, opening, judgeSays}
+use Rattle.programs.specs.Judge.{Said, coin, verdict, refusal, drawn, atInputs, ending, heard, talk, opening, judgeSays}
 use Rattle.programs.specs.Theorems.{ReadAs, BelievedOnlyWhere}
 use Rattle.programs.proofs.CoinsLeft.{CoinsLeft, none-left, some-left, next-left, start-left}
-
-abbrev N : Numbers ℕ
-N = modulo modulus
 
 -- ---- `believed` is among what is printed
 abbrev Believing : List Said → Type 0

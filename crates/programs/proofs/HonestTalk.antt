@@ -1,6 +1,6 @@
 -- The house says what the honest prover answers along the coins, and with it the judge believes right outputs.
 -- Both programs follow the same coins: the house takes each one into the prover, which then answers from there on.
-use mathlib.Core.Path.{_≡_, refl, sym, _∙_, ap, subst, fun-ext}
+use mathlib.Core.Path.{_≡_, refl, sym, _∙_, ap, fun-ext}
 use mathlib.Core.Bool.{Bool, true, cond}
 use mathlib.Core.List.{List, [], _∷_, _++_, map}
 use Prim.Native.Nat.{ℕ, zero, suc, _+_, _-_, _≤_}
@@ -12,24 +12,22 @@ use Rattle.std.specs.declared.option.Option.the-variants.{Some}
 use Rattle.std.specs.declared.result.Result.the-variants.{Ok, Err}
 use Rattle.std.proofs.shelf.Lists.{append-nil, append-assoc, length-push, length-drop, length-take-le, take-at}
 use Rattle.std.proofs.shelf.Tests.{and-parts}
-use Rattle.arithmetic.specs.Numbers.{Numbers, modulo, allReduced}
+use Rattle.arithmetic.specs.Numbers.{allReduced}
 use Rattle.arithmetic.proofs.Truth.{path-of-T}
-use Rattle.circuits.specs.Circuit.{Circuit, outputs}
+use Rattle.circuits.specs.Circuit.{outputs}
 use Rattle.circuits.specs.Words.{modulus}
 use Rattle.circuits.specs.declared.refusal.Refusal.the-variants.{NotReduced}
 use Rattle.argument.specs.Sumcheck.{Prover, after}
 use Rattle.argument.specs.Argument.{firstCoins, layerCoins}
 use Rattle.argument.specs.Honest.{honest}
 use Rattle.judging.specs.declared.verdict.Verdict.the-variants.{Believed}
+use Rattle.judging.specs.Meaning.{numbers as N}
 use Rattle.texts.specs.Texts.{numbersOf, lineOf}
 use Rattle.texts.proofs.RoundTrip.{round-trip}
 use Rattle.programs.specs.Judge.{Said, coin, verdict, saidText, judgeSays}
 use Rattle.programs.specs.House.{Uttered, answer, utteredText, coinHeard, goOn, answering, listening, houseSays}
-use Rattle.programs.specs.Theorems.{ReadAs, alone, answersInTurn, honestAnswers, HouseSaysHonest, TheyAgree}
+use Rattle.programs.specs.Theorems.{ReadAs, alone, answersInTurn, honestAnswers, HouseSaysHonest, HouseConvincesJudge}
 use Rattle.programs.proofs.RightTalk.{reduced-words, reduced-drop, right-outputs-are-believed}
-
-abbrev N : Numbers ℕ
-N = modulo modulus
 
 -- a line that holds a coin is taken as that coin
 coin-taken : (line : List ℕ) (r : ℕ) (go : ℕ → List Uttered) → numbersOf line ≡ Some (alone r) → ltb r modulus ≡ true →
@@ -118,8 +116,8 @@ answers-as-text : (answers : List (List ℕ)) → map utteredText (map answer an
 answers-as-text [] = refl
 answers-as-text (a ∷ answers) = ap (λ (texts : List (List ℕ)). lineOf a ∷ texts) (answers-as-text answers)
 
-pub they-agree : TheyAgree
-they-agree whole c law vs given coins sized =
+pub house-convinces-judge : HouseConvincesJudge
+house-convinces-judge whole c law vs given coins sized =
     let printed : List Said = map coin coins ++ (verdict Believed ∷ []) in
     let below : allReduced N coins ≡ true = path-of-T (allReduced N coins) (sized .1) in
     let says : houseSays c vs (map saidText printed) ≡ map answer (honestAnswers c vs coins) =

@@ -6,19 +6,19 @@ use mathlib.Core.List.{List, [], _∷_, _++_, map}
 use Prim.Native.Nat.{ℕ, zero, suc, _+_, _-_, _^_, _<_, _≤_}
 use native.Mathlib.Nat.{add-zero}
 use native.Mathlib.Omega.{arith}
-use lib.Dec.{T, eqb, ltb, lit<}
+use lib.Dec.{eqb, ltb, lit<}
 use lib.ListN.{length, take, drop, getD, take-append-drop}
 use Rattle.std.specs.shelf.Lists.{All}
 use Rattle.std.specs.declared.option.Option.{Option}
-use Rattle.std.specs.declared.option.Option.the-variants.{Some, None}
+use Rattle.std.specs.declared.option.Option.the-variants.{Some}
 use Rattle.std.proofs.shelf.Lists.{append-nil, append-assoc, map-append, length-drop, length-take-le}
 use Rattle.std.proofs.shelf.Tests.{and-parts, cond-true, cond-false, ltb-true, false≢true}
-use Rattle.arithmetic.specs.Numbers.{Numbers, Whole, modulo, allReduced}
+use Rattle.arithmetic.specs.Numbers.{allReduced}
 use Rattle.arithmetic.proofs.Truth.{path-of-T}
-use Rattle.circuits.specs.Circuit.{Circuit, outputs}
+use Rattle.circuits.specs.Circuit.{outputs}
 use Rattle.circuits.specs.Words.{modulus}
 use Rattle.argument.specs.Sumcheck.{Prover, wellFormed, nth}
-use Rattle.argument.specs.Argument.{firstCoins, layerCoins, coinsOf, accepts}
+use Rattle.argument.specs.Argument.{firstCoins, layerCoins, accepts}
 use Rattle.argument.specs.Honest.{honest}
 use Rattle.argument.specs.Transcript.{written}
 use Rattle.argument.proofs.Main.{main}
@@ -26,15 +26,13 @@ use Rattle.judging.specs.declared.verdict.Verdict.{Verdict}
 use Rattle.judging.specs.declared.verdict.Verdict.the-variants.{Believed, Stopped}
 use Rattle.judging.specs.Machine.{isBelieved, Stand, variableDue, sizeUnder, pointC, pointX, pointY, expectedOf, fitsVariable, fitsValues, fits, next, doubt, settled, resume, start}
 use Rattle.judging.specs.Machine as machine
+use Rattle.judging.specs.Meaning.{numbers as N}
 use Rattle.judging.proofs.Bridge.{machine-believes}
 use Rattle.texts.specs.Texts.{numbersOf, lineOf}
 use Rattle.texts.proofs.RoundTrip.{round-trip}
-use Rattle.programs.specs.Judge.{Said, coin, verdict, refusal, drawn, atInputs, ending, heard, talk, opening, judgeSays}
+use Rattle.programs.specs.Judge.{Said, coin, verdict, refusal, drawn, atInputs, ending, heard, talk, opening}
 use Rattle.programs.specs.Theorems.{answersInTurn, honestAnswers, RightOutputsAreBelieved}
 use Rattle.programs.proofs.CoinsLeft.{CoinsLeft, none-left, some-left, next-left, start-left}
-
-abbrev N : Numbers ℕ
-N = modulo modulus
 
 -- ---- what fits is read as it was written
 pub reduced-words : (ns : List ℕ) → allReduced N ns ≡ true → All (λ n. n < 2 ^ 32) ns
@@ -121,7 +119,7 @@ reduced-drop (suc n) [] h = h
 reduced-drop (suc n) (x ∷ xs) h = reduced-drop n xs (and-parts (ltb x modulus) (allReduced N xs) h .1)
 
 -- ---- the answers in turn
-pub in-turn-count : (m : ℕ) (f : Prover ℕ) (n : ℕ) (coins : List ℕ) → length (answersInTurn m f n coins) ≡ m
+in-turn-count : (m : ℕ) (f : Prover ℕ) (n : ℕ) (coins : List ℕ) → length (answersInTurn m f n coins) ≡ m
 unfolding answersInTurn
 in-turn-count zero f n coins = refl
 in-turn-count (suc m) f n coins = ap suc (in-turn-count m f (n + 1) coins)

@@ -27,6 +27,7 @@ ReadAs lines [] = Unit {0}
 ReadAs [] (numbers ∷ others) = ⊥
 ReadAs (line ∷ lines) (numbers ∷ others) = (numbersOf line ≡ Some numbers) × ReadAs lines others
 
+-- all that a line with a coin holds
 abbrev pub alone : ℕ → List ℕ
 alone r = r ∷ []
 
@@ -67,9 +68,9 @@ RightOutputsAreBelieved =
     map coin coins ++ (verdict Believed ∷ [])
 
 -- The two programs with each other: where the house is given the lines that the judge prints, and the judge those that
--- the house prints, right outputs are believed, and the house refuses nothing.
-abbrev pub TheyAgree : Type 0
-TheyAgree =
+-- the house prints, right outputs are believed.
+abbrev pub HouseConvincesJudge : Type 0
+HouseConvincesJudge =
     Whole modulus → (c : Circuit) → T (lawful c) → (vs : List ℕ) → Sized modulus (2 ^ (c .copies + c .inputs)) vs →
     (coins : List ℕ) → Sized modulus (coinsOf c) coins →
     let printed = map coin coins ++ (verdict Believed ∷ []) in
