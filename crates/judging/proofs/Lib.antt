@@ -12,3 +12,4 @@ pub mod Summing
 pub mod Limits
 pub mod PointParts
 pub mod Reading
+pub mod Driven

@@ -7,3 +7,4 @@ pub mod Gathered
 pub mod Meaning
 pub mod Shares
 pub mod Answers
+pub mod Driving

@@ -7,6 +7,7 @@ mod extension;
 mod share;
 mod sums;
 pub mod theorems;
+mod transcript;
 pub mod verdict;
 pub mod verifier;
 mod wiring;
