@@ -4,7 +4,8 @@ use mathlib.Core.Path.{_≡_}
 use mathlib.Core.List.{List, [], _∷_, _++_}
 use Prim.Native.Nat.{ℕ, _*_}
 use lib.ListN.{length, take, drop}
-use Rattle.argument.specs.Transcript.{fours, answersOf}
+use Rattle.argument.specs.Argument.{layerCoins}
+use Rattle.argument.specs.Transcript.{fours, answersOf, layerWords}
 use Rattle.judging.specs.declared.verdict.Verdict.{Verdict}
 use Rattle.judging.specs.Machine.{Stand, variablesOf, resume}
 use Rattle.judging.specs.Meaning.{numbers}
@@ -41,3 +42,10 @@ layerAnswers s ws = fours (variablesOf s) ws ++ (take 2 (drop (4 * variablesOf s
 -- the answers of this layer and those below it
 abbrev pub answersFrom : Stand ℕ → List ℕ → List (List ℕ)
 answersFrom s ws = answersOf (s .copies) (s .layers) (s .inputs) ws
+
+-- how many words they take, and how many coins fall for them
+abbrev pub wordsFrom : Stand ℕ → ℕ
+wordsFrom s = layerWords (s .copies) (s .layers) (s .inputs)
+
+abbrev pub coinsFrom : Stand ℕ → ℕ
+coinsFrom s = layerCoins (s .copies) (s .layers) (s .inputs)

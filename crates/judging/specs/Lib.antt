@@ -8,3 +8,4 @@ pub mod Meaning
 pub mod Shares
 pub mod Answers
 pub mod Driving
+pub mod Checks
