@@ -7,3 +7,5 @@ pub mod Gathered
 pub mod Meaning
 pub mod Shares
 pub mod Answers
+pub mod Driving
+pub mod Checks
