@@ -117,7 +117,7 @@ answers-as-text [] = refl
 answers-as-text (a ∷ answers) = ap (λ (texts : List (List ℕ)). lineOf a ∷ texts) (answers-as-text answers)
 
 pub house-convinces-judge : HouseConvincesJudge
-house-convinces-judge whole c law vs given coins sized =
+house-convinces-judge c law vs given coins sized =
     let printed : List Said = map coin coins ++ (verdict Believed ∷ []) in
     let below : allReduced N coins ≡ true = path-of-T (allReduced N coins) (sized .1) in
     let says : houseSays c vs (map saidText printed) ≡ map answer (honestAnswers c vs coins) =
@@ -127,4 +127,4 @@ house-convinces-judge whole c law vs given coins sized =
     ap (map utteredText) says ∙ answers-as-text (honestAnswers c vs coins)
     in
     ap (judgeSays c vs (outputs N c vs) (map Some coins)) lines ∙
-    right-outputs-are-believed whole c law vs given coins sized
+    right-outputs-are-believed c law vs given coins sized

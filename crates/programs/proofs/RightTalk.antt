@@ -13,6 +13,7 @@ use Rattle.std.specs.declared.option.Option.{Option}
 use Rattle.std.specs.declared.option.Option.the-variants.{Some}
 use Rattle.std.proofs.shelf.Lists.{append-nil, append-assoc, map-append, length-drop, length-take-le}
 use Rattle.std.proofs.shelf.Tests.{and-parts, cond-true, cond-false, ltb-true, false≢true}
+use Rattle.arithmetic.proofs.WholeMersenne.{whole31}
 use Rattle.arithmetic.specs.Numbers.{allReduced}
 use Rattle.arithmetic.proofs.Truth.{path-of-T}
 use Rattle.circuits.specs.Circuit.{outputs}
@@ -144,7 +145,7 @@ written-in-turn f k coins n low high =
 
 -- ---- a whole run
 pub right-outputs-are-believed : RightOutputsAreBelieved
-right-outputs-are-believed whole c law vs given coins sized =
+right-outputs-are-believed c law vs given coins sized =
     let k : ℕ = firstCoins c in
     let n : ℕ = layerCoins (c .copies) (c .layers) (c .inputs) in
     let f : Prover ℕ = honest N c vs in
@@ -158,7 +159,7 @@ right-outputs-are-believed whole c law vs given coins sized =
     in
     let accepted : accepts N c vs claimed (written k answers) coins ≡ true =
     main .1 .1 modulus c vs claimed (written k answers) f coins (λ m low high. written-in-turn f k coins m low high) ∙
-    path-of-T (accepts N c vs claimed f coins) (main .0 modulus whole (lit< tt) c law vs given coins sized)
+    path-of-T (accepts N c vs claimed f coins) (main .0 modulus whole31 (lit< tt) c law vs given coins sized)
     in
     let sure : machine.verdict N c vs claimed answers coins ≡ Believed =
     is-believed (machine.verdict N c vs claimed answers coins)

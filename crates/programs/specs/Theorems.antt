@@ -8,7 +8,7 @@ use lib.ListN.{length, take}
 use Rattle.std.specs.shelf.Lists.{Has}
 use Rattle.std.specs.declared.option.Option.{Option}
 use Rattle.std.specs.declared.option.Option.the-variants.{Some}
-use Rattle.arithmetic.specs.Numbers.{Whole, modulo}
+use Rattle.arithmetic.specs.Numbers.{modulo}
 use Rattle.circuits.specs.Circuit.{Circuit, lawful, outputs}
 use Rattle.circuits.specs.Words.{modulus}
 use Rattle.argument.specs.Sumcheck.{Prover}
@@ -62,7 +62,7 @@ HouseSaysHonest =
 -- is printed is the coins and `believed`.
 abbrev pub RightOutputsAreBelieved : Type 0
 RightOutputsAreBelieved =
-    Whole modulus → (c : Circuit) → T (lawful c) → (vs : List ℕ) → Sized modulus (2 ^ (c .copies + c .inputs)) vs →
+    (c : Circuit) → T (lawful c) → (vs : List ℕ) → Sized modulus (2 ^ (c .copies + c .inputs)) vs →
     (coins : List ℕ) → Sized modulus (coinsOf c) coins →
     judgeSays c vs (outputs (modulo modulus) c vs) (map Some coins) (map lineOf (honestAnswers c vs coins)) ≡
     map coin coins ++ (verdict Believed ∷ [])
@@ -71,7 +71,7 @@ RightOutputsAreBelieved =
 -- the house prints, right outputs are believed.
 abbrev pub HouseConvincesJudge : Type 0
 HouseConvincesJudge =
-    Whole modulus → (c : Circuit) → T (lawful c) → (vs : List ℕ) → Sized modulus (2 ^ (c .copies + c .inputs)) vs →
+    (c : Circuit) → T (lawful c) → (vs : List ℕ) → Sized modulus (2 ^ (c .copies + c .inputs)) vs →
     (coins : List ℕ) → Sized modulus (coinsOf c) coins →
     let printed = map coin coins ++ (verdict Believed ∷ []) in
     judgeSays c vs (outputs (modulo modulus) c vs) (map Some coins)
