@@ -21,6 +21,11 @@ module _ {K : Type 0} (N : Numbers K) where
   weights size ss i zero = []
   weights size ss i (suc n) = weight size ss i ∷ weights size ss (i + 1) n
 
+  -- all weights times a factor
+  unfoldable pub scaled : K → List K → List K
+  scaled factor [] = []
+  scaled factor (w ∷ ws) = mul factor w ∷ scaled factor ws
+
   -- ---- the copies' variables
   -- the sum, over gates, of weight times the gate's value at the copies' point c, where v has the values below
   unfoldable pub gateSum : ℕ → List Gate → List K → List K → List K → K
@@ -66,16 +71,20 @@ module _ {K : Type 0} (N : Numbers K) where
   gatherJ (g ∷ gs) (w ∷ ws) v table =
       gatherJ gs ws v (addAt table (g .left) (toRest (g .kind) w (getD v (g .right) (nat 0))))
 
-  -- H and J for y: by the gates' right places, with weights times eq of the left place at x, which ex has for all places;
-  -- the other value is a, the value at x
-  unfoldable pub gatherHy : List Gate → List K → List K → K → List K → List K
-  gatherHy [] ws ex a table = table
-  gatherHy (g ∷ gs) [] ex a table = table
-  gatherHy (g ∷ gs) (w ∷ ws) ex a table =
-      gatherHy gs ws ex a (addAt table (g .right) (toProduct (g .kind) (mul w (getD ex (g .left) (nat 0))) a))
+  -- the gates' weights times eq of the left place at x, which ex has for all places. They take the place of the weights
+  -- before anything is gathered, so that the memory of ex is free for one of the two tables.
+  unfoldable pub weightsAt : List Gate → List K → List K → List K
+  weightsAt [] ws ex = []
+  weightsAt (g ∷ gs) [] ex = []
+  weightsAt (g ∷ gs) (w ∷ ws) ex = mul w (getD ex (g .left) (nat 0)) ∷ weightsAt gs ws ex
 
-  unfoldable pub gatherJy : List Gate → List K → List K → K → List K → List K
-  gatherJy [] ws ex a table = table
-  gatherJy (g ∷ gs) [] ex a table = table
-  gatherJy (g ∷ gs) (w ∷ ws) ex a table =
-      gatherJy gs ws ex a (addAt table (g .right) (toRest (g .kind) (mul w (getD ex (g .left) (nat 0))) a))
+  -- H and J for y: by the gates' right places, with such weights; the other value is a, the value at x
+  unfoldable pub gatherHy : List Gate → List K → K → List K → List K
+  gatherHy [] ws a table = table
+  gatherHy (g ∷ gs) [] a table = table
+  gatherHy (g ∷ gs) (w ∷ ws) a table = gatherHy gs ws a (addAt table (g .right) (toProduct (g .kind) w a))
+
+  unfoldable pub gatherJy : List Gate → List K → K → List K → List K
+  gatherJy [] ws a table = table
+  gatherJy (g ∷ gs) [] a table = table
+  gatherJy (g ∷ gs) (w ∷ ws) a table = gatherJy gs ws a (addAt table (g .right) (toRest (g .kind) w a))
