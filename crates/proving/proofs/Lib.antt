@@ -1,0 +1,6 @@
+pub mod Respond
+pub mod GateTerms
+pub mod PhaseC
+pub mod Places
+pub mod PhaseX
+pub mod PhaseY
