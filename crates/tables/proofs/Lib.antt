@@ -4,3 +4,7 @@ pub mod Linear
 pub mod Places
 pub mod Points
 pub mod Theorems
+pub mod ReducedLists
+pub mod HalvingSteps
+pub mod EqSteps
+pub mod DoublingSteps

@@ -1,0 +1,42 @@
+-- Lists of numbers below a modulus: by their places, in parts, joined and computed.
+-- Calls ask for such lists, and writes owe them.
+use mathlib.Core.List.{List, [], _∷_, _++_, map}
+use Prim.Native.Nat.{ℕ, zero, suc, _<_, suc-le-suc}
+use native.Mathlib.Omega.{arith}
+use lib.Dec.{T, ltb, lt→ltb}
+use lib.ListN.{length, getD, take, drop}
+use Rattle.arithmetic.specs.Numbers.{modulo, allReduced}
+use Rattle.arithmetic.proofs.Truth.{and-left, and-right, and-both}
+
+module _ (p : ℕ) where
+  pub reduced-from : (xs : List ℕ) → ((i : ℕ) → i < length xs → getD xs i 0 < p) → T (allReduced (modulo p) xs)
+  unfolding allReduced
+  reduced-from [] h = tt
+  reduced-from (x ∷ xs) h =
+      and-both (ltb x p) (allReduced (modulo p) xs) (lt→ltb x p (h 0 (omega arith))) (reduced-from xs (λ i l. h (suc i) (suc-le-suc l)))
+
+  pub reduced-append : (xs ys : List ℕ) → T (allReduced (modulo p) xs) → T (allReduced (modulo p) ys) → T (allReduced (modulo p) (xs ++ ys))
+  unfolding allReduced
+  reduced-append [] ys s t = t
+  reduced-append (x ∷ xs) ys s t =
+      and-both (ltb x p) (allReduced (modulo p) (xs ++ ys)) (and-left (ltb x p) (allReduced (modulo p) xs) s)
+      (reduced-append xs ys (and-right (ltb x p) (allReduced (modulo p) xs) s) t)
+
+  pub reduced-take : (n : ℕ) (xs : List ℕ) → T (allReduced (modulo p) xs) → T (allReduced (modulo p) (take n xs))
+  unfolding allReduced
+  reduced-take zero xs t = tt
+  reduced-take (suc n) [] t = tt
+  reduced-take (suc n) (x ∷ xs) t =
+      and-both (ltb x p) (allReduced (modulo p) (take n xs)) (and-left (ltb x p) (allReduced (modulo p) xs) t)
+      (reduced-take n xs (and-right (ltb x p) (allReduced (modulo p) xs) t))
+
+  pub reduced-drop : (n : ℕ) (xs : List ℕ) → T (allReduced (modulo p) xs) → T (allReduced (modulo p) (drop n xs))
+  unfolding allReduced
+  reduced-drop zero xs t = t
+  reduced-drop (suc n) [] t = tt
+  reduced-drop (suc n) (x ∷ xs) t = reduced-drop n xs (and-right (ltb x p) (allReduced (modulo p) xs) t)
+
+  pub reduced-map : (f : ℕ → ℕ) → ((x : ℕ) → f x < p) → (xs : List ℕ) → T (allReduced (modulo p) (map f xs))
+  unfolding allReduced
+  reduced-map f h [] = tt
+  reduced-map f h (x ∷ xs) = and-both (ltb (f x) p) (allReduced (modulo p) (map f xs)) (lt→ltb (f x) p (h x)) (reduced-map f h xs)
