@@ -4,3 +4,5 @@ pub mod PhaseC
 pub mod Places
 pub mod PhaseX
 pub mod PhaseY
+pub mod AlongPlaces
+pub mod CopyRound

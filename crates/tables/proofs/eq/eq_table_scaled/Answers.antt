@@ -48,8 +48,8 @@ split-first-requires g c κs =
     record {
       even = doubling-even (c .loop-done .out) (c .loop-done .len) (c .loop-done .len * 2 - 0) (omega arith) fits;
       reduced =
-        doubling-reduced p (c .args .factor) positive point before (c .loop-done .out) (c .loop-done .done) (c .loop-done .len) (c .loop-done .len * 2 - 0)
-        (omega arith) (c .loop-done .inv) (c .loop-done-test .taken) fits;
+          doubling-reduced p (c .args .factor) positive point before (c .loop-done .out) (c .loop-done .done) (c .loop-done .len) (c .loop-done .len * 2 - 0)
+          (omega arith) (c .loop-done .inv) (c .loop-done-test .taken) fits;
       r-below = reduced-at p point (c .pre .point-reduced) (length point - 1 - c .loop-done .done) (omega arith);
     }
 
@@ -75,6 +75,6 @@ returns g c =
     let positive : 0 < p = omega (arith, g .M·Modular·met .above) in
     record {
       words =
-        doubling-all p (c .args .factor) point (c .args .out .now) (c .loop-done .out) (c .loop-done .done) (c .loop-done .len) (c .loop-done .inv) (omega arith);
+          doubling-all p (c .args .factor) point (c .args .out .now) (c .loop-done .out) (c .loop-done .done) (c .loop-done .len) (c .loop-done .inv) (omega arith);
       reduced = scaled-reduced p positive (c .args .factor) point;
     }
