@@ -1,2 +1,5 @@
 pub mod Circuit
 pub mod Words
+pub mod Parts
+pub mod Refusals
+pub mod Views

@@ -6,3 +6,5 @@ pub mod PhaseX
 pub mod PhaseY
 pub mod AlongPlaces
 pub mod CopyRound
+pub mod RoundSums
+pub mod RoundSteps

@@ -1,5 +1,3 @@
 // The honest prover: a machine that goes step by step in lent memory, and the call that proves for given coins by it.
 // Its tables are halved after each coin, so that a layer takes time in proportion to the gates of all copies.
-pub fn zero() -> u32 {
-    0
-}
+pub mod rounds;
