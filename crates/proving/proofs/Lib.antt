@@ -6,5 +6,6 @@ pub mod PhaseX
 pub mod PhaseY
 pub mod AlongPlaces
 pub mod CopyRound
+pub mod RowSteps
 pub mod RoundSums
 pub mod RoundSteps

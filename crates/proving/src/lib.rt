@@ -1,3 +1,5 @@
 // The honest prover: a machine that goes step by step in lent memory, and the call that proves for given coins by it.
 // Its tables are halved after each coin, so that a layer takes time in proportion to the gates of all copies.
+pub mod copies;
+pub mod fours;
 pub mod rounds;
