@@ -114,11 +114,11 @@ module _ {K : Type 0} {N : Numbers K} (R : Ring N) where
   -- a factor of all the weights is one of the sum
   pub terms-scaled : (f : K) (m : ℕ) (gs : List Gate) (ws x y : List K) (a b : K) →
       gateTerms N m gs (scaled N f ws) x y a b ≡ mul f (gateTerms N m gs ws x y a b)
-  unfolding gateTerms scaled
+  unfolding gateTerms
   terms-scaled f m [] ws x y a b = sym (R .mul-zero f)
   terms-scaled f m (g ∷ gs) [] x y a b = sym (R .mul-zero f)
   terms-scaled f m (g ∷ gs) (w ∷ ws) x y a b =
       let t : K = mul (mul (eqPoly N (bitsOf N m (g .left)) x) (eqPoly N (bitsOf N m (g .right)) y)) (combine N (g .kind) a b) in
       let rest : K = gateTerms N m gs ws x y a b in
-      ap (add (mul (mul f w) t)) (terms-scaled f m gs ws x y a b) ∙
-      solve R (f ∷ w ∷ t ∷ rest ∷ []) (var 0 :* var 1 :* var 2 :+ var 0 :* var 3) (var 0 :* (var 1 :* var 2 :+ var 3)) refl
+      ap (add (mul (mul w f) t)) (terms-scaled f m gs ws x y a b) ∙
+      solve R (f ∷ w ∷ t ∷ rest ∷ []) (var 1 :* var 0 :* var 2 :+ var 0 :* var 3) (var 0 :* (var 1 :* var 2 :+ var 3)) refl

@@ -7,5 +7,6 @@ pub mod PhaseY
 pub mod AlongPlaces
 pub mod CopyRound
 pub mod RowSteps
+pub mod Gathering
 pub mod RoundSums
 pub mod RoundSteps

@@ -1,6 +1,6 @@
 -- What the prover's tables stand for in each phase of a layer: the sums that it answers with, in a form that takes one
 -- pass over the gates. First the copies' variables; then x; then y, x being fixed.
-use mathlib.Core.List.{List, [], _∷_, _++_}
+use mathlib.Core.List.{List, [], _∷_, _++_, map}
 use Prim.Native.Nat.{ℕ, zero, suc, _+_}
 use lib.ListN.{getD, set}
 use Rattle.arithmetic.specs.Numbers.{Numbers}
@@ -22,9 +22,8 @@ module _ {K : Type 0} (N : Numbers K) where
   weights size ss i (suc n) = weight size ss i ∷ weights size ss (i + 1) n
 
   -- all weights times a factor
-  unfoldable pub scaled : K → List K → List K
-  scaled factor [] = []
-  scaled factor (w ∷ ws) = mul factor w ∷ scaled factor ws
+  abbrev pub scaled : K → List K → List K
+  scaled factor ws = map (λ w. mul w factor) ws
 
   -- ---- the copies' variables
   -- the sum, over gates, of weight times the gate's value at the copies' point c, where v has the values below

@@ -2,4 +2,5 @@
 // Its tables are halved after each coin, so that a layer takes time in proportion to the gates of all copies.
 pub mod copies;
 pub mod fours;
+pub mod gather;
 pub mod rounds;
