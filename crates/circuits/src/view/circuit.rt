@@ -1,9 +1,10 @@
 // The whole circuit: its numbers, and its layers from the outputs' one down.
 // A check of the words is the only way to a view of one.
-ghost use mathlib.Core.Bool.{true, false};
+ghost use mathlib.Core.Bool.{true};
 ghost use mathlib.Core.Path.{_≡_};
-ghost use Prim.Native.Nat.{_+_, _≤_};
-ghost use Rattle.std.specs.Results.{Cases};
+ghost use Prim.Native.Nat.{_+_, _^_, _≤_};
+ghost use Rattle.circuits.specs.Circuit.{outputSize};
+ghost use Rattle.circuits.specs.Refusals.{RefusedUnless};
 ghost use Rattle.circuits.specs.Views.{wordsSeen, circuitSeen, layersSeen, copiesAbove, inputsBelow};
 ghost use Rattle.circuits.specs.Words.{isCircuit};
 use super::CircuitView;
@@ -12,6 +13,7 @@ use crate::places::layers_fit;
 use crate::refusal::Refusal;
 use crate::shape::MOST_BITS;
 use crate::shape::is_shaped;
+use crate::shape::power;
 
 const MOST_WORDS: usize = 524288;
 
@@ -41,7 +43,7 @@ fn is_circuit(words: &[u32]) -> bool
 
 // Refuses all words but those of a lawful circuit.
 pub fn check_circuit(words: &[u32]) -> Result<(), Refusal>
-    ensures { λ r. ⌜ Cases r (λ _. isCircuit (now (words .entry)) ≡ true) (λ e. (e ≡ Refusal.NoCircuit) × (isCircuit (now (words .entry)) ≡ false)) ⌝ }
+    ensures { λ r. ⌜ RefusedUnless (isCircuit (now (words .entry))) Refusal.NoCircuit r ⌝ }
 {
     if is_circuit(words) {
         Ok(())
@@ -70,6 +72,23 @@ impl<'a> CircuitView<'a> {
         ensures limit { λ r. ⌜ circuitSeen (self .entry) .copies + r ≤ 16 ⌝ }
     {
         self.words[1]
+    }
+
+    // How many inputs it takes, in all copies.
+    pub fn input_count(self) -> usize
+        ensures value { λ r. ⌜ r ≡ 2 ^ (circuitSeen (self .entry) .copies + circuitSeen (self .entry) .inputs) ⌝ }
+        ensures limit { λ r. ⌜ r ≤ 65536 ⌝ }
+    {
+        power(self.copies() + self.inputs())
+    }
+
+    // How many outputs it gives, in all copies.
+    pub fn output_count(self) -> usize
+        ensures value { λ r. ⌜ r ≡ 2 ^ (circuitSeen (self .entry) .copies + outputSize (circuitSeen (self .entry))) ⌝ }
+        ensures limit { λ r. ⌜ r ≤ 65536 ⌝ }
+    {
+        let layers = self.layers();
+        power(layers.copies() + layers.top_size())
     }
 
     // All its layers, the outputs' one first.

@@ -1,7 +1,7 @@
 // Layers from one of them down to the inputs.
 // Taking off the first of them again and again walks down a circuit in one pass over its words.
 ghost use mathlib.Core.Path.{_≡_};
-ghost use Prim.Native.Nat.{_+_, _≤_, _<_};
+ghost use Prim.Native.Nat.{_+_, _*_, _^_, _≤_, _<_};
 ghost use lib.ListN.{length, drop, getD};
 ghost use Rattle.circuits.specs.Circuit.{sizeBelow};
 ghost use Rattle.circuits.specs.Views.{layersSeen, layerSeen, copiesAbove, inputsBelow, placesBelow, noLayer};
@@ -9,10 +9,12 @@ use super::LayerView;
 use super::LayersView;
 use crate::places::split_layer;
 use crate::places::top_size;
+use crate::shape::power;
 
 impl<'a> LayersView<'a> {
     pub fn copies(self) -> u32
-        ensures { λ r. ⌜ r ≡ copiesAbove (self .entry) ⌝ }
+        ensures value { λ r. ⌜ r ≡ copiesAbove (self .entry) ⌝ }
+        ensures limit { λ r. ⌜ r ≤ 16 ⌝ }
     {
         self.copies
     }
@@ -35,6 +37,14 @@ impl<'a> LayersView<'a> {
         ensures limit { λ r. ⌜ copiesAbove (self .entry) + r ≤ 16 ⌝ }
     {
         top_size(self.copies, self.inputs, self.count, self.words)
+    }
+
+    // How many values the first of these layers has, or the inputs where there is none, in all copies.
+    pub fn value_count(self) -> usize
+        ensures value { λ r. ⌜ r ≡ 2 ^ copiesAbove (self .entry) * 2 ^ sizeBelow (layersSeen (self .entry)) (inputsBelow (self .entry)) ⌝ }
+        ensures limit { λ r. ⌜ r ≤ 65536 ⌝ }
+    {
+        power(self.copies + self.top_size())
     }
 
     // The first of these layers.
