@@ -3,7 +3,7 @@
 use mathlib.Core.Path.{_≡_, refl, sym, ap, fun-ext, _∙_}
 use mathlib.Core.Bool.{Bool, true, _&&_}
 use mathlib.Core.List.{List, [], _∷_, _++_}
-use Prim.Native.Nat.{ℕ, zero, suc, _+_, _*_, _≤_, _^_}
+use Prim.Native.Nat.{ℕ, suc, _+_, _*_, _^_}
 use native.Mathlib.Nat.{le-of-eq, suc-inj, suc-ne-zero}
 use native.Mathlib.Omega.{arith}
 use lib.Dec.{eqb, leb}
@@ -16,12 +16,12 @@ use Rattle.arithmetic.proofs.Ring.{Ring}
 use Rattle.arithmetic.proofs.Field.{Field, equal-yes}
 use Rattle.tables.specs.Multilinear.{mle, sumCorners}
 use Rattle.tables.proofs.Extension.{reduce-mle}
-use Rattle.circuits.specs.Circuit.{Layer, Circuit, sizeBelow, layersFit, lawful, outputSize, allValues, outputs}
-use Rattle.argument.specs.Claims.{Claim, shareSum, expected}
-use Rattle.argument.specs.Sumcheck.{Prover, after, wellFormed, rounds, respond}
+use Rattle.circuits.specs.Circuit.{Layer, Circuit, sizeBelow, layersFit, lawful, allValues, outputs}
+use Rattle.argument.specs.Claims.{Claim, shareSum}
+use Rattle.argument.specs.Sumcheck.{Prover, wellFormed, rounds, respond}
 use Rattle.argument.specs.Argument.{claimBelow, values, believes, firstClaim, firstCoins, layerCoins, coinsOf, accepts}
 use Rattle.argument.specs.Honest.{twoValues, honestFrom, honest}
-use Rattle.argument.proofs.Copies.{Fits, fits, allValues-inputs}
+use Rattle.argument.proofs.Copies.{fits, allValues-inputs}
 use Rattle.argument.proofs.Gates.{Long}
 use Rattle.argument.proofs.Layer.{summand, layer-identity}
 use Rattle.argument.proofs.Smooth.{smooth}
@@ -34,7 +34,8 @@ module _ {K : Type 0} {N : Numbers K} (F : Field N) where
   open Numbers N using (add, mul, nat, equal, reduced)
 
   -- the two values below, as they are
-  values-answered : (l : Layer) (m : ℕ) (k : Claim K) (X c x y : List K) (next : Claim K → Prover K → List K → Bool) (later : K → Prover K) (n : ℕ) →
+  values-answered : (l : Layer) (m : ℕ) (k : Claim K) (X c x y : List K) (next : Claim K → Prover K → List K → Bool)
+      (later : K → Prover K) (n : ℕ) →
       ((s : K) (rest : List K) → length rest ≡ n → next (claimBelow N c x y (mle N X (c ++ x)) (mle N X (c ++ y)) s) (later s) rest ≡ true) →
       (coins : List K) → length coins ≡ suc n →
       values N l m k c x y next (twoValues N (mle N X (c ++ x)) (mle N X (c ++ y)) later) (summand (F .ring) l m k X c x y) coins ≡ true
@@ -51,9 +52,11 @@ module _ {K : Type 0} {N : Numbers K} (F : Field N) where
       (and-from (equal S S) go (F .equal-refl S) (h s coins (suc-inj e)))
 
   module _ (copies inputs : ℕ) (vs : List K) (full : length vs ≡ 2 ^ copies * 2 ^ inputs) where
-    layers-answered : (ls : List Layer) (k : Claim K) → layersFit ls inputs ≡ true → length (k .copy) ≡ copies → Long (sizeBelow ls inputs) (k .shares) →
+    layers-answered : (ls : List Layer) (k : Claim K) → layersFit ls inputs ≡ true →
+        length (k .copy) ≡ copies → Long (sizeBelow ls inputs) (k .shares) →
         k .total ≡ shareSum N (allValues N ls (2 ^ inputs) (2 ^ copies) vs) (k .copy) (k .shares) →
-        (coins : List K) → length coins ≡ layerCoins copies ls inputs → believes N copies ls inputs vs k (honestFrom N copies ls inputs vs k) coins ≡ true
+        (coins : List K) → length coins ≡ layerCoins copies ls inputs →
+        believes N copies ls inputs vs k (honestFrom N copies ls inputs vs k) coins ≡ true
     unfolding believes honestFrom layerCoins
     layers-answered [] k fit long points right coins e =
         and-from (equal (shareSum N vs (k .copy) (k .shares)) (k .total)) (eqb (length coins) 0)
@@ -99,7 +102,8 @@ module _ {K : Type 0} {N : Numbers K} (F : Field N) where
       let there : length z ≡ first = length-take-le first coins (omega arith) in
       let shifted : (λ later. honest N c vs (z ++ later)) ≡ honestFrom N (c .copies) (c .layers) (c .inputs) vs (claim z) =
       fun-ext (λ later. rw (take-at z later first there, drop-at z later first there)) in
-      and-from (eqb (length coins) (coinsOf c)) (believes N (c .copies) (c .layers) (c .inputs) vs (claim z) (λ later. honest N c vs (z ++ later)) (drop first coins))
+      and-from (eqb (length coins) (coinsOf c))
+      (believes N (c .copies) (c .layers) (c .inputs) vs (claim z) (λ later. honest N c vs (z ++ later)) (drop first coins))
       (eq-eqb (length coins) (coinsOf c) e)
       (rw shifted
       (layers-answered (c .copies) (c .inputs) vs full (c .layers) (claim z) (parts .1) (length-take-le (c .copies) z (omega arith))

@@ -1,17 +1,17 @@
 -- How the values of a lawful circuit lie: the length of each layer's table, and its copies one after the other.
 -- `Copied` says, halving by halving, that a table holds all copies of a layer over a table of what lies below.
 use mathlib.Core.Path.{_≡_, refl, sym, ap, _∙_}
-use mathlib.Core.Bool.{Bool, true, _&&_}
+use mathlib.Core.Bool.{true, _&&_}
 use mathlib.Core.List.{List, [], _∷_, _++_, append-nil, append-assoc}
-use Prim.Native.Nat.{ℕ, zero, suc, _+_, _-_, _*_, _<_, _≤_, _^_}
+use Prim.Native.Nat.{ℕ, zero, suc, _+_, _*_, _<_, _≤_, _^_}
 use native.Mathlib.Nat.{zero-add, suc-add, zero-mul, suc-mul, add-mul, two-pow-succ, add-comm}
 use native.Mathlib.Omega.{arith}
 use lib.Dec.{eqb, ltb}
-use lib.ListN.{length, take, drop, getD, length-append, length-drop}
+use lib.ListN.{length, take, drop, length-append, length-drop}
 use Rattle.std.proofs.shelf.Tests.{and-parts, eqb-true, ltb-true}
 use Rattle.std.proofs.shelf.Lists.{length-take-le, drop-drop, take-append-drop, nil-from-length}
 use Rattle.arithmetic.specs.Numbers.{Numbers}
-use Rattle.circuits.specs.Circuit.{Gate, Layer, sizeBelow, gatesFit, layersFit, gateValue, gateValues, copyValues, allValues}
+use Rattle.circuits.specs.Circuit.{Gate, Layer, sizeBelow, gatesFit, layersFit, gateValues, copyValues, allValues}
 
 -- each gate takes places below n
 abbrev pub Reads : ℕ → List Gate → Type 0
@@ -65,7 +65,8 @@ module _ {K : Type 0} (N : Numbers K) where
       let first : length (copyValues N ls (take n vs)) ≡ w = one (take n vs) (length-take-le n vs (omega arith)) in
       length-append (copyValues N ls (take n vs)) (allValues N ls n count (drop n vs)) ∙ omega (arith, first, rest, suc-mul count w)
 
-  pub allValues-full : (ls : List Layer) (inputs : ℕ) → layersFit ls inputs ≡ true → (copies : ℕ) (vs : List K) → 2 ^ copies * 2 ^ inputs ≤ length vs →
+  pub allValues-full : (ls : List Layer) (inputs : ℕ) → layersFit ls inputs ≡ true →
+      (copies : ℕ) (vs : List K) → 2 ^ copies * 2 ^ inputs ≤ length vs →
       length (allValues N ls (2 ^ inputs) (2 ^ copies) vs) ≡ 2 ^ copies * 2 ^ sizeBelow ls inputs
   allValues-full ls inputs h copies vs enough =
       allValues-length ls (2 ^ inputs) (2 ^ sizeBelow ls inputs) (copyValues-length ls inputs h) (2 ^ copies) vs enough

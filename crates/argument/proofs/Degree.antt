@@ -1,20 +1,20 @@
 -- What a layer's sumchecks are about has degree below 4 in each variable: of the copies, of x and of y.
 -- Each factor has degree at most 1; eq and the wiring together count as one factor, or there would be one too many.
-use mathlib.Core.Path.{_≡_, refl, sym, ap, _∙_}
+use mathlib.Core.Path.{_≡_, refl}
 use mathlib.Core.Bool.{Bool, true, false, cond}
 use mathlib.Core.List.{List, [], _∷_, _++_}
 use Prim.Native.Nat.{ℕ, zero, suc, _+_}
 use lib.ListN.{length}
 use Rattle.arithmetic.specs.Numbers.{Numbers}
-use Rattle.arithmetic.proofs.Ring.{Ring, reduce-add, reduce-mul}
-use Rattle.arithmetic.proofs.Solver.{Exp, var, con, _:+_, _:*_, _:-_, red, solve}
+use Rattle.arithmetic.proofs.Ring.{Ring}
+use Rattle.arithmetic.proofs.Solver.{var, _:+_, _:*_, solve}
 use Rattle.arithmetic.proofs.Degree.{Deg, deg-add, deg-mul, deg-line, deg-raise}
 use Rattle.tables.specs.Multilinear.{mle, eqPoly, bitsOf, sumCorners}
 use Rattle.tables.proofs.Extension.{reduce-mle}
 use Rattle.tables.proofs.Linear.{Lin, lin-const, lin-add, lin-mul-l, lin-mul-r, lin-front, lin-back, lin-mle, lin-eqPoly}
 use Rattle.tables.proofs.Places.{bits-length}
 use Rattle.circuits.specs.Circuit.{Kind, sum, product, Gate, Layer}
-use Rattle.argument.specs.Claims.{Share, Claim, sameKind, wiring, sharedWiring, expected}
+use Rattle.argument.specs.Claims.{Share, Claim, sameKind, wiring, sharedWiring}
 use Rattle.argument.proofs.Smooth.{Degs, degs-same, degs-sumCorners}
 use Rattle.argument.proofs.Layer.{summand}
 
@@ -86,11 +86,16 @@ module _ {K : Type 0} {N : Numbers K} (R : Ring N) where
       lin-add R m (λ y. mul (s .factor) (first y)) (λ y. sharedWiring N kind l m ss x y)
       (lin-mul-l R m (s .factor) first (wiring-y kind (l .size) m 0 (l .gates) (s .point) x)) (shared-y kind l m ss x)
 
-  -- ---- what is summed
-  grouped : (e A M a b : K) → add (mul (mul e A) (add a b)) (mul (mul e M) (mul a b)) ≡ mul e (add (mul A (add a b)) (mul M (mul a b)))
-  grouped e A M a b =
-      solve R (e ∷ A ∷ M ∷ a ∷ b ∷ []) (var 0 :* var 1 :* (var 3 :+ var 4) :+ var 0 :* var 2 :* (var 3 :* var 4))
-      (var 0 :* (var 1 :* (var 3 :+ var 4) :+ var 2 :* (var 3 :* var 4))) refl
+  -- ---- what is summed, with eq multiplied into the wiring
+  degs-summand : (n : ℕ) (E A M a b : List K → K) → Lin R n (λ z. mul (E z) (A z)) → Lin R n (λ z. mul (E z) (M z)) → Lin R n a → Lin R n b →
+      Degs R 4 n (λ z. mul (E z) (add (mul (A z) (add (a z) (b z))) (mul (M z) (mul (a z) (b z)))))
+  degs-summand n E A M a b hA hM ha hb =
+      degs-same R 4 n (λ z. add (mul (mul (E z) (A z)) (add (a z) (b z))) (mul (mul (E z) (M z)) (mul (a z) (b z))))
+      (λ z. mul (E z) (add (mul (A z) (add (a z) (b z))) (mul (M z) (mul (a z) (b z)))))
+      (λ z.
+      solve R (E z ∷ A z ∷ M z ∷ a z ∷ b z ∷ []) (var 0 :* var 1 :* (var 3 :+ var 4) :+ var 0 :* var 2 :* (var 3 :* var 4))
+      (var 0 :* (var 1 :* (var 3 :+ var 4) :+ var 2 :* (var 3 :* var 4))) refl)
+      (degs-four n (λ z. mul (E z) (A z)) (λ z. mul (E z) (M z)) a b hA hM ha hb)
 
   module _ (l : Layer) (m : ℕ) (k : Claim K) (X : List K) where
     abbrev E : List K → K
@@ -104,29 +109,23 @@ module _ {K : Type 0} {N : Numbers K} (R : Ring N) where
 
     pub degs-y : (c x : List K) → Degs R 4 m (λ y. summand R l m k X c x y)
     degs-y c x =
-        degs-same R 4 m (λ y. add (mul (mul (E c) (A x y)) (add (mle N X (c ++ x)) (mle N X (c ++ y)))) (mul (mul (E c) (M x y)) (mul (mle N X (c ++ x)) (mle N X (c ++ y)))))
-        (λ y. summand R l m k X c x y) (λ y. grouped (E c) (A x y) (M x y) (mle N X (c ++ x)) (mle N X (c ++ y)))
-        (degs-four m (λ y. mul (E c) (A x y)) (λ y. mul (E c) (M x y)) (λ y. mle N X (c ++ x)) (λ y. mle N X (c ++ y))
+        degs-summand m (λ y. E c) (A x) (M x) (λ y. mle N X (c ++ x)) (λ y. mle N X (c ++ y))
         (lin-mul-l R m (E c) (A x) (shared-y sum l m (k .shares) x)) (lin-mul-l R m (E c) (M x) (shared-y product l m (k .shares) x))
-        (lin-const R m (mle N X (c ++ x)) (reduce-mle R (c ++ x) X)) (lin-back R m X c))
+        (lin-const R m (mle N X (c ++ x)) (reduce-mle R (c ++ x) X)) (lin-back R m X c)
 
     pub degs-x : (c : List K) → Degs R 4 m (λ x. sumCorners N m (λ y. summand R l m k X c x y))
     degs-x c =
         degs-sumCorners R 4 m m (λ x y. summand R l m k X c x y)
         (λ y.
-        degs-same R 4 m (λ x. add (mul (mul (E c) (A x y)) (add (mle N X (c ++ x)) (mle N X (c ++ y)))) (mul (mul (E c) (M x y)) (mul (mle N X (c ++ x)) (mle N X (c ++ y)))))
-        (λ x. summand R l m k X c x y) (λ x. grouped (E c) (A x y) (M x y) (mle N X (c ++ x)) (mle N X (c ++ y)))
-        (degs-four m (λ x. mul (E c) (A x y)) (λ x. mul (E c) (M x y)) (λ x. mle N X (c ++ x)) (λ x. mle N X (c ++ y))
+        degs-summand m (λ x. E c) (λ x. A x y) (λ x. M x y) (λ x. mle N X (c ++ x)) (λ x. mle N X (c ++ y))
         (lin-mul-l R m (E c) (λ x. A x y) (shared-x sum l m (k .shares) y)) (lin-mul-l R m (E c) (λ x. M x y) (shared-x product l m (k .shares) y))
-        (lin-back R m X c) (lin-const R m (mle N X (c ++ y)) (reduce-mle R (c ++ y) X))))
+        (lin-back R m X c) (lin-const R m (mle N X (c ++ y)) (reduce-mle R (c ++ y) X)))
 
     pub degs-c : (b : ℕ) → length (k .copy) ≡ b → Degs R 4 b (λ c. sumCorners N m (λ x. sumCorners N m (λ y. summand R l m k X c x y)))
     degs-c b long =
         degs-sumCorners R 4 b m (λ c x. sumCorners N m (λ y. summand R l m k X c x y))
         (λ x. degs-sumCorners R 4 b m (λ c y. summand R l m k X c x y)
         (λ y.
-        degs-same R 4 b (λ c. add (mul (mul (E c) (A x y)) (add (mle N X (c ++ x)) (mle N X (c ++ y)))) (mul (mul (E c) (M x y)) (mul (mle N X (c ++ x)) (mle N X (c ++ y)))))
-        (λ c. summand R l m k X c x y) (λ c. grouped (E c) (A x y) (M x y) (mle N X (c ++ x)) (mle N X (c ++ y)))
-        (degs-four b (λ c. mul (E c) (A x y)) (λ c. mul (E c) (M x y)) (λ c. mle N X (c ++ x)) (λ c. mle N X (c ++ y))
+        degs-summand b E (λ c. A x y) (λ c. M x y) (λ c. mle N X (c ++ x)) (λ c. mle N X (c ++ y))
         (lin-mul-r R b (A x y) E (lin-eqPoly R b (k .copy) long)) (lin-mul-r R b (M x y) E (lin-eqPoly R b (k .copy) long))
-        (lin-front R b (mle N X) x (lin-mle R b X)) (lin-front R b (mle N X) y (lin-mle R b X)))))
+        (lin-front R b (mle N X) x (lin-mle R b X)) (lin-front R b (mle N X) y (lin-mle R b X))))

@@ -1,17 +1,16 @@
 -- One copy of a layer: the wiring, summed against the values below over all corners, gives back the gates' values.
 -- Each gate's eq polynomials pick out the two values that it takes, one after the other.
-use mathlib.Core.Path.{_≡_, refl, sym, ap, ap₂, _∙_}
+use mathlib.Core.Path.{_≡_, refl, ap, ap₂, _∙_}
 use mathlib.Core.Bool.{cond}
-use mathlib.Core.List.{List, [], _∷_, _++_}
-use Prim.Native.Nat.{ℕ, zero, suc, _+_, _^_, _<_}
+use mathlib.Core.List.{List, [], _∷_}
+use Prim.Native.Nat.{ℕ, _+_, _^_, _<_}
 use lib.ListN.{length, getD}
 use Rattle.arithmetic.specs.Numbers.{Numbers}
-use Rattle.arithmetic.proofs.Ring.{Ring, reduce-add, zero-mul}
-use Rattle.arithmetic.proofs.Solver.{Exp, var, con, _:+_, _:*_, _:-_, red, solve}
+use Rattle.arithmetic.proofs.Ring.{Ring, zero-mul}
+use Rattle.arithmetic.proofs.Solver.{var, con, _:+_, _:*_, red, solve}
 use Rattle.tables.specs.Multilinear.{mle, eqPoly, bitsOf, sumCorners}
 use Rattle.tables.specs.Theorems.{sumPlaces}
 use Rattle.tables.proofs.Corners.{sumCorners-same, sumCorners-add, sumCorners-scale}
-use Rattle.tables.proofs.Extension.{reduce-mle}
 use Rattle.tables.proofs.Linear.{Lin, lin-add-l, lin-add-r, lin-mul-l, lin-mul-r, lin-mle, picked}
 use Rattle.tables.proofs.Places.{bits-length, placed, sumPlaces-mle}
 use Rattle.circuits.specs.Circuit.{Kind, sum, product, Gate, Layer, combine, gateValues}
@@ -91,23 +90,29 @@ module _ {K : Type 0} {N : Numbers K} (R : Ring N) where
         ∙ ap reduce (ap₂ mul (placed R m X i full h) (placed R m X j full k))
         ∙ solve R (getD X i (nat 0) ∷ getD X j (nat 0) ∷ []) (red (red (var 0) :* red (var 1))) (red (var 0 :* var 1)) refl
 
+    no-gates : sumPairs m (λ x y. body (nat 0) (nat 0) (mle N X x) (mle N X y)) ≡ nat 0
+    no-gates =
+        sumPairs-same m (λ x y. body (nat 0) (nat 0) (mle N X x) (mle N X y)) (λ x y. mul (nat 0) (nat 0))
+        (λ x y. solve R (mle N X x ∷ mle N X y ∷ []) (con 0 :* (var 0 :+ var 1) :+ con 0 :* (var 0 :* var 1)) (con 0 :* con 0) refl)
+        ∙ sumPairs-scale m (nat 0) (λ x y. nat 0) ∙ zero-mul R (sumPairs m (λ x y. nat 0))
+
     gates-sum : (s i : ℕ) (gs : List Gate) (z : List K) → Reads (2 ^ m) gs →
         sumPairs m (λ x y. body (wiring N sum s m i gs z x y) (wiring N product s m i gs z x y) (mle N X x) (mle N X y)) ≡
         sumPlaces N s i (gateValues N X gs) z
     unfolding wiring sumPlaces gateValues
-    gates-sum s i [] z h =
-        sumPairs-same m (λ x y. body (nat 0) (nat 0) (mle N X x) (mle N X y)) (λ x y. mul (nat 0) (nat 0))
-        (λ x y. solve R (mle N X x ∷ mle N X y ∷ []) (con 0 :* (var 0 :+ var 1) :+ con 0 :* (var 0 :* var 1)) (con 0 :* con 0) refl)
-        ∙ sumPairs-scale m (nat 0) (λ x y. nat 0) ∙ zero-mul R (sumPairs m (λ x y. nat 0))
+    gates-sum s i [] z h = no-gates
     gates-sum s i (g ∷ gs) z h =
         let e : K = eqPoly N (bitsOf N s i) z in
         let p : List K → K = eqPoly N (bitsOf N m (g .left)) in
         let q : List K → K = eqPoly N (bitsOf N m (g .right)) in
         let v : K = combine N (g .kind) (getD X (g .left) (nat 0)) (getD X (g .right) (nat 0)) in
         let one : List K → List K → K = λ x y. mul (mul (p x) (q y)) (combine N (g .kind) (mle N X x) (mle N X y)) in
-        let others : List K → List K → K = λ x y. body (wiring N sum s m (i + 1) gs z x y) (wiring N product s m (i + 1) gs z x y) (mle N X x) (mle N X y) in
-        sumPairs-same m (λ x y. body (wiring N sum s m i (g ∷ gs) z x y) (wiring N product s m i (g ∷ gs) z x y) (mle N X x) (mle N X y)) (λ x y. add (mul e (one x y)) (others x y))
-        (λ x y. first-apart (g .kind) e (p x) (q y) (wiring N sum s m (i + 1) gs z x y) (wiring N product s m (i + 1) gs z x y) (mle N X x) (mle N X y))
+        let others : List K → List K → K =
+        λ x y. body (wiring N sum s m (i + 1) gs z x y) (wiring N product s m (i + 1) gs z x y) (mle N X x) (mle N X y) in
+        sumPairs-same m (λ x y. body (wiring N sum s m i (g ∷ gs) z x y) (wiring N product s m i (g ∷ gs) z x y) (mle N X x) (mle N X y))
+        (λ x y. add (mul e (one x y)) (others x y))
+        (λ x y.
+        first-apart (g .kind) e (p x) (q y) (wiring N sum s m (i + 1) gs z x y) (wiring N product s m (i + 1) gs z x y) (mle N X x) (mle N X y))
         ∙ sumPairs-add m (λ x y. mul e (one x y)) others
         ∙ ap₂ add
         (sumPairs-scale m e one ∙ ap (mul e) (one-gate (g .kind) (g .left) (g .right) (h .0) (h .1))
@@ -115,14 +120,12 @@ module _ {K : Type 0} {N : Numbers K} (R : Ring N) where
         (gates-sum s (i + 1) gs z (h .2))
 
     -- the same over all shares of a claim
-    pub shares-sum : (l : Layer) → length (l .gates) ≡ 2 ^ l .size → Reads (2 ^ m) (l .gates) → (ss : List (Share K)) → Long (l .size) ss →
+    pub shares-sum : (l : Layer) → length (l .gates) ≡ 2 ^ l .size → Reads (2 ^ m) (l .gates) →
+        (ss : List (Share K)) → Long (l .size) ss →
         sumPairs m (λ x y. body (sharedWiring N sum l m ss x y) (sharedWiring N product l m ss x y) (mle N X x) (mle N X y)) ≡
         shareSum N (gateValues N X (l .gates)) [] ss
     unfolding sharedWiring shareSum
-    shares-sum l many reads [] long =
-        sumPairs-same m (λ x y. body (nat 0) (nat 0) (mle N X x) (mle N X y)) (λ x y. mul (nat 0) (nat 0))
-        (λ x y. solve R (mle N X x ∷ mle N X y ∷ []) (con 0 :* (var 0 :+ var 1) :+ con 0 :* (var 0 :* var 1)) (con 0 :* con 0) refl)
-        ∙ sumPairs-scale m (nat 0) (λ x y. nat 0) ∙ zero-mul R (sumPairs m (λ x y. nat 0))
+    shares-sum l many reads [] long = no-gates
     shares-sum l many reads (s ∷ ss) long =
         let A : List K → List K → K = wiring N sum (l .size) m 0 (l .gates) (s .point) in
         let M : List K → List K → K = wiring N product (l .size) m 0 (l .gates) (s .point) in

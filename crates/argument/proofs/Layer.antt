@@ -3,18 +3,18 @@
 use mathlib.Core.Path.{_≡_, refl, sym, ap, ap₂, _∙_}
 use mathlib.Core.Bool.{true}
 use mathlib.Core.List.{List, [], _∷_, _++_}
-use Prim.Native.Nat.{ℕ, zero, suc, _+_, _*_, _^_, _≤_}
+use Prim.Native.Nat.{ℕ, zero, suc, _*_, _^_, _≤_}
 use native.Mathlib.Nat.{suc-inj, suc-ne-zero}
 use lib.ListN.{length}
 use Rattle.arithmetic.specs.Numbers.{Numbers}
 use Rattle.arithmetic.proofs.Ring.{Ring, reduce-add, one-mul}
-use Rattle.arithmetic.proofs.Solver.{Exp, var, con, _:+_, _:*_, _:-_, red, solve}
+use Rattle.arithmetic.proofs.Solver.{var, con, _:+_, _:*_, _:-_, solve}
 use Rattle.tables.specs.Multilinear.{mle, eqPoly, sumCorners}
 use Rattle.tables.proofs.Corners.{sumCorners-same, sumCorners-scale}
 use Rattle.tables.proofs.Extension.{mle-halves, mle-zero, mle-one}
-use Rattle.circuits.specs.Circuit.{sum, product, Gate, Layer, sizeBelow, layersFit, gateValues, allValues}
+use Rattle.circuits.specs.Circuit.{sum, product, Layer, sizeBelow, layersFit, gateValues, allValues}
 use Rattle.argument.specs.Claims.{Share, Claim, shareSum, sharedWiring, expected}
-use Rattle.argument.proofs.Copies.{Reads, Fits, fits, Copied, copied}
+use Rattle.argument.proofs.Copies.{Reads, fits, Copied, copied}
 use Rattle.argument.proofs.Gates.{Long, sumPairs, sumPairs-same, sumPairs-scale, body, shares-sum}
 
 module _ {K : Type 0} {N : Numbers K} (R : Ring N) where
@@ -35,10 +35,13 @@ module _ {K : Type 0} {N : Numbers K} (R : Ring N) where
       (var 1 :* ((con 1 :- var 0) :* var 2 :+ var 0 :* var 3) :+ ((con 1 :- var 0) :* var 4 :+ var 0 :* var 5))
       ((con 1 :- var 0) :* (var 1 :* var 2 :+ var 4) :+ var 0 :* (var 1 :* var 3 :+ var 5)) refl
 
-  module _ (l : Layer) (m : ℕ) (ss : List (Share K)) (many : length (l .gates) ≡ 2 ^ l .size) (reads : Reads (2 ^ m) (l .gates)) (long : Long (l .size) ss) where
+  module _ (l : Layer) (m : ℕ) (ss : List (Share K))
+      (many : length (l .gates) ≡ 2 ^ l .size) (reads : Reads (2 ^ m) (l .gates)) (long : Long (l .size) ss) where
     -- the expression of the layer, at copies d and below at x and y
     abbrev term : List K → List K → List K → List K → List K → K
-    term X c d x y = mul (eqPoly N c d) (body R (sharedWiring N sum l m ss x y) (sharedWiring N product l m ss x y) (mle N X (d ++ x)) (mle N X (d ++ y)))
+    term X c d x y =
+        mul (eqPoly N c d)
+        (body R (sharedWiring N sum l m ss x y) (sharedWiring N product l m ss x y) (mle N X (d ++ x)) (mle N X (d ++ y)))
 
     -- with the first variable at 0 or 1 the claim's point adds a factor, and one half of the table is left
     half : (b : ℕ) (X X' : List K) (t r k : K) (c : List K) → ((z : List K) → mle N X (t ∷ z) ≡ mle N X' z) →
@@ -52,7 +55,8 @@ module _ {K : Type 0} {N : Numbers K} (R : Ring N) where
         (λ x y.
         ap₂ (λ e u. mul e u) (weight d)
         (ap₂ (λ u v. body R (sharedWiring N sum l m ss x y) (sharedWiring N product l m ss x y) u v) (table (d ++ x)) (table (d ++ y)))
-        ∙ R .mul-assoc k (eqPoly N c d) (body R (sharedWiring N sum l m ss x y) (sharedWiring N product l m ss x y) (mle N X' (d ++ x)) (mle N X' (d ++ y))))
+        ∙ R .mul-assoc k (eqPoly N c d)
+        (body R (sharedWiring N sum l m ss x y) (sharedWiring N product l m ss x y) (mle N X' (d ++ x)) (mle N X' (d ++ y))))
         ∙ sumPairs-scale R m k (λ x y. term X' c d x y))
         ∙ sumCorners-scale R b k (λ d. sumPairs R m (λ x y. term X' c d x y))
 
@@ -84,9 +88,11 @@ module _ {K : Type 0} {N : Numbers K} (R : Ring N) where
   abbrev pub summand : Layer → ℕ → Claim K → List K → List K → List K → List K → K
   summand l m k X c x y = expected N l m k c x y (mle N X (c ++ x)) (mle N X (c ++ y))
 
-  pub layer-identity : (l : Layer) (ls : List Layer) (inputs copies : ℕ) (vs : List K) → layersFit (l ∷ ls) inputs ≡ true → 2 ^ copies * 2 ^ inputs ≤ length vs →
-      (k : Claim K) → length (k .copy) ≡ copies → Long (l .size) (k .shares) →
-      sumCorners N copies (λ c. sumCorners N (sizeBelow ls inputs) (λ x. sumCorners N (sizeBelow ls inputs) (λ y. summand l (sizeBelow ls inputs) k (allValues N ls (2 ^ inputs) (2 ^ copies) vs) c x y))) ≡
+  pub layer-identity : (l : Layer) (ls : List Layer) (inputs copies : ℕ) (vs : List K) → layersFit (l ∷ ls) inputs ≡ true →
+      2 ^ copies * 2 ^ inputs ≤ length vs → (k : Claim K) → length (k .copy) ≡ copies → Long (l .size) (k .shares) →
+      let m = sizeBelow ls inputs in
+      let X = allValues N ls (2 ^ inputs) (2 ^ copies) vs in
+      sumCorners N copies (λ c. sumCorners N m (λ x. sumCorners N m (λ y. summand l m k X c x y))) ≡
       shareSum N (allValues N (l ∷ ls) (2 ^ inputs) (2 ^ copies) vs) (k .copy) (k .shares)
   layer-identity l ls inputs copies vs fit enough k e long =
       let f = fits l ls inputs fit in

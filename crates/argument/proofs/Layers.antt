@@ -1,9 +1,9 @@
 -- Layer by layer: a claim with a wrong total is believed on few rows of coins, down to the inputs.
 -- Three sumchecks lead from a claim to two values below; one more coin joins these in a claim about the layer below.
 use mathlib.Core.Path.{_≡_, refl, sym, ap, ap₂, _∙_}
-use mathlib.Core.Bool.{Bool, true, false, _&&_}
+use mathlib.Core.Bool.{Bool, true}
 use mathlib.Core.List.{List, [], _∷_, _++_}
-use Prim.Native.Nat.{ℕ, zero, suc, _+_, _*_, _<_, _≤_, _^_}
+use Prim.Native.Nat.{ℕ, suc, _+_, _*_, _≤_, _^_}
 use native.Mathlib.Nat.{le-of-eq}
 use native.Mathlib.Omega.{arith}
 use lib.Dec.{T, eqb}
@@ -12,19 +12,19 @@ use Rattle.std.proofs.shelf.Tests.{and-left}
 use Rattle.arithmetic.specs.Numbers.{Numbers, allReduced}
 use Rattle.arithmetic.specs.Counting.{countRows}
 use Rattle.arithmetic.proofs.Ring.{Ring}
-use Rattle.arithmetic.proofs.Solver.{Exp, var, con, _:+_, _:*_, _:-_, red, solve}
+use Rattle.arithmetic.proofs.Solver.{var, con, _:+_, _:*_, solve}
 use Rattle.arithmetic.proofs.Field.{Field, equal-false, equal-no}
 use Rattle.arithmetic.proofs.Truth.{T-of-path}
-use Rattle.arithmetic.proofs.Counting.{Row, Coin, row-length}
+use Rattle.arithmetic.proofs.Counting.{row-length}
 use Rattle.arithmetic.proofs.Agreement.{line}
 use Rattle.tables.specs.Multilinear.{mle, sumCorners}
 use Rattle.tables.proofs.Extension.{reduce-mle}
 use Rattle.tables.proofs.Points.{getD-reduced}
 use Rattle.circuits.specs.Circuit.{Layer, sizeBelow, layersFit, allValues}
-use Rattle.argument.specs.Claims.{Share, Claim, shareSum, expected}
+use Rattle.argument.specs.Claims.{Claim, shareSum, expected}
 use Rattle.argument.specs.Sumcheck.{Prover, after, wellFormed, nth, rounds}
 use Rattle.argument.specs.Argument.{claimBelow, values, believes, layerCoins, layerChances}
-use Rattle.argument.proofs.Copies.{Fits, fits, allValues-inputs}
+use Rattle.argument.proofs.Copies.{fits, allValues-inputs}
 use Rattle.argument.proofs.Gates.{Long}
 use Rattle.argument.proofs.Layer.{summand, layer-identity}
 use Rattle.argument.proofs.Smooth.{smooth}
@@ -67,15 +67,18 @@ module _ {K : Type 0} {N : Numbers K} (F : Field N) where
       (λ d. equal-false F (add a (mul s b)) (add a' (mul s b')) good (d ∙ claimBelow-sum X c x y a b s)))
 
   module _ (copies inputs : ℕ) (vs : List K) (full : length vs ≡ 2 ^ copies * 2 ^ inputs) where
-    pub layers-few : (ls : List Layer) (k : Claim K) (f : Prover K) → layersFit ls inputs ≡ true → length (k .copy) ≡ copies → Long (sizeBelow ls inputs) (k .shares) →
+    pub layers-few : (ls : List Layer) (k : Claim K) (f : Prover K) → layersFit ls inputs ≡ true →
+        length (k .copy) ≡ copies → Long (sizeBelow ls inputs) (k .shares) →
         (k .total ≡ shareSum N (allValues N ls (2 ^ inputs) (2 ^ copies) vs) (k .copy) (k .shares) → ⊥) →
-        countRows N (layerCoins copies ls inputs) (believes N copies ls inputs vs k f) * order ≤ layerChances copies ls inputs * order ^ layerCoins copies ls inputs
+        countRows N (layerCoins copies ls inputs) (believes N copies ls inputs vs k f) * order ≤
+        layerChances copies ls inputs * order ^ layerCoins copies ls inputs
     unfolding believes layerCoins layerChances
     layers-few [] k f fit long points wrong =
         none F 0 (0 * order ^ 0) (believes N copies [] inputs vs k f)
         (λ x r. and-left (equal (shareSum N vs (k .copy) (k .shares)) (k .total)) (eqb (length x) 0)
         (equal-no F (shareSum N vs (k .copy) (k .shares)) (k .total)
-        (λ e. wrong (sym e ∙ ap (λ (X : List K). shareSum N X (k .copy) (k .shares)) (sym (allValues-inputs N (2 ^ inputs) (2 ^ copies) vs full))))))
+        (λ e. wrong (sym e
+        ∙ ap (λ (X : List K). shareSum N X (k .copy) (k .shares)) (sym (allValues-inputs N (2 ^ inputs) (2 ^ copies) vs full))))))
     layers-few (l ∷ ls) k f fit long points wrong =
         let m : ℕ = sizeBelow ls inputs in
         let X : List K = allValues N ls (2 ^ inputs) (2 ^ copies) vs in

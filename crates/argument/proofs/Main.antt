@@ -1,8 +1,5 @@
 -- The main promise, for every whole modulus above 3.
 -- The numbers modulo such a p are a field, and over any field it is proved already.
-use mathlib.Core.Path.{_≡_}
-use Prim.Native.Nat.{ℕ, _+_, _^_}
-use lib.Dec.{T}
 use Rattle.arithmetic.specs.Numbers.{modulo, allReduced}
 use Rattle.arithmetic.proofs.FieldModulo.{fieldModulo}
 use Rattle.arithmetic.proofs.Truth.{path-of-T, T-of-path}

@@ -1,12 +1,13 @@
 -- Nothing but answers counts: two provers that answer alike along the coins are believed alike.
 -- Each stage asks only at what has been drawn so far, so alike before a coin is alike after it.
-use mathlib.Core.Path.{_≡_, refl, sym, ap, _∙_}
+use mathlib.Core.Path.{_≡_, refl, ap}
 use mathlib.Core.Bool.{Bool, _&&_}
 use mathlib.Core.List.{List, [], _∷_, _++_}
-use Prim.Native.Nat.{ℕ, zero, suc, _+_, _-_, _<_, _≤_, _^_}
-use native.Mathlib.Nat.{suc-le-suc-iff, zero-lt-suc, zero-add, suc-add}
+use Prim.Native.Nat.{ℕ, zero, suc, _+_, _<_, _≤_}
+use native.Mathlib.Nat.{suc-le-suc-iff, zero-lt-suc}
 use native.Mathlib.Omega.{arith}
 use lib.Dec.{eqb}
+use lib.Seq.{take-add}
 use lib.ListN.{length, take, drop, length-drop}
 use Rattle.arithmetic.specs.Numbers.{Numbers, modulo}
 use Rattle.arithmetic.specs.Cubic.{interpolate}
@@ -66,15 +67,6 @@ module _ {K : Type 0} (N : Numbers K) where
       (λ y. values-alike l m k c x y next (λ j. believes-alike copies ls inputs vs j))))
       (k .total) f g coins same
 
-  take-none : (n : ℕ) → take {A = K} n [] ≡ []
-  take-none zero = refl
-  take-none (suc n) = refl
-
-  take-further : (m n : ℕ) (xs : List K) → take m xs ++ take n (drop m xs) ≡ take (m + n) xs
-  take-further zero n xs = rw zero-add
-  take-further (suc m) n [] = rw (suc-add, take-none n)
-  take-further (suc m) n (x ∷ xs) = rw suc-add (ap {B = List K} (λ t. x ∷ t) (take-further m n xs))
-
   accepts-alike : (c : Circuit) (vs claimed : List K) (f g : Prover K) (coins : List K) →
       ((n : ℕ) → firstCoins c ≤ n → n < length coins → f (take n coins) ≡ g (take n coins)) →
       accepts N c vs claimed f coins ≡ accepts N c vs claimed g coins
@@ -82,8 +74,9 @@ module _ {K : Type 0} (N : Numbers K) where
       let first = firstCoins c in
       let z = take first coins in
       ap (λ (b : Bool). eqb (length coins) (coinsOf c) && b)
-      (believes-alike (c .copies) (c .layers) (c .inputs) vs (firstClaim N c claimed z) (λ later. f (z ++ later)) (λ later. g (z ++ later)) (drop first coins)
-      (λ n below. rw (take-further first n coins) (same (first + n) (omega arith) (omega (arith, length-drop first coins)))))
+      (believes-alike (c .copies) (c .layers) (c .inputs) vs (firstClaim N c claimed z)
+      (λ later. f (z ++ later)) (λ later. g (z ++ later)) (drop first coins)
+      (λ n below. rw (← take-add first n coins) (same (first + n) (omega arith) (omega (arith, length-drop first coins)))))
 
 pub onlyMessages : OnlyMessages
 onlyMessages p = accepts-alike (modulo p)

@@ -1,6 +1,6 @@
 -- Functions of degree below d in each of n variables, and sums of them over the corners of other variables.
 -- What a round of a sumcheck asks for is such a sum, so its answer is a cubic: `Smooth` says so round by round.
-use mathlib.Core.Path.{_≡_, refl, sym, ap, _∙_}
+use mathlib.Core.Path.{_≡_}
 use mathlib.Core.List.{List, [], _∷_}
 use Prim.Native.Nat.{ℕ, zero, suc}
 use Rattle.arithmetic.specs.Numbers.{Numbers}

@@ -1,9 +1,9 @@
 -- Wrong outputs are believed on few rows of coins, over any field.
 -- Their polynomial and the right one agree at few points; at any other point the first claim is wrong.
-use mathlib.Core.Path.{_≡_, refl, sym, ap, ap₂, _∙_}
-use mathlib.Core.Bool.{Bool, true, false, _&&_, true≢false, false≢true}
+use mathlib.Core.Path.{_≡_, refl, sym, ap, _∙_}
+use mathlib.Core.Bool.{Bool, true, false, _&&_, false≢true}
 use mathlib.Core.List.{List, [], _∷_, _++_}
-use Prim.Native.Nat.{ℕ, zero, suc, _+_, _-_, _*_, _≤_, _^_, zero-le}
+use Prim.Native.Nat.{ℕ, zero, suc, _+_, _*_, _≤_, _^_, zero-le}
 use native.Mathlib.Nat.{le-refl, le-trans, le-of-eq, mul-le-mul-right}
 use native.Mathlib.Omega.{arith}
 use lib.Dec.{eqb, leb}
@@ -13,15 +13,15 @@ use Rattle.std.proofs.shelf.Tests.{and-parts, and-from}
 use Rattle.std.proofs.shelf.Lists.{length-take-le, take-at, drop-at, take-append-drop}
 use Rattle.arithmetic.specs.Numbers.{Numbers, allReduced}
 use Rattle.arithmetic.specs.Counting.{indicator, countRows}
-use Rattle.arithmetic.proofs.Ring.{Ring, reduce-add, reduce-mul}
-use Rattle.arithmetic.proofs.Solver.{Exp, var, con, _:+_, _:*_, _:-_, red, solve}
+use Rattle.arithmetic.proofs.Ring.{reduce-add, reduce-mul}
+use Rattle.arithmetic.proofs.Solver.{var, con, _:+_, _:*_, red, solve}
 use Rattle.arithmetic.proofs.Field.{Field, equal-false}
-use Rattle.arithmetic.proofs.Counting.{Row, row-length, sumRows-le, union}
+use Rattle.arithmetic.proofs.Counting.{row-length, sumRows-le, union}
 use Rattle.tables.specs.Multilinear.{mle}
 use Rattle.tables.proofs.Extension.{reduce-mle}
 use Rattle.tables.proofs.Points.{tables-agree}
-use Rattle.circuits.specs.Circuit.{Kind, sum, product, Gate, Layer, Circuit, sizeBelow, layersFit, lawful, outputSize, combine, gateValue, gateValues, copyValues, allValues, outputs}
-use Rattle.argument.specs.Claims.{Claim, shareSum}
+use Rattle.circuits.specs.Circuit.{Kind, sum, product, Gate, Layer, Circuit, layersFit, lawful, outputSize, combine, gateValue, gateValues, copyValues, allValues, outputs}
+use Rattle.argument.specs.Claims.{shareSum}
 use Rattle.argument.specs.Sumcheck.{Prover}
 use Rattle.argument.specs.Argument.{believes, firstClaim, firstCoins, layerCoins, layerChances, coinsOf, chancesOf, accepts}
 use Rattle.argument.proofs.Copies.{allValues-full}
@@ -59,7 +59,8 @@ module _ {K : Type 0} {N : Numbers K} (F : Field N) where
       append-reduced (gateValues N (copyValues N ls (take n vs)) (l .gates)) (allValues N (l ∷ ls) n count (drop n vs))
       (gateValues-reduced (copyValues N ls (take n vs)) (l .gates)) (allValues-reduced l ls n count (drop n vs))
 
-  outputs-reduced : (ls : List Layer) (n count : ℕ) (vs : List K) → leb 1 (length ls) ≡ true → allReduced N (allValues N ls n count vs) ≡ true
+  outputs-reduced : (ls : List Layer) (n count : ℕ) (vs : List K) → leb 1 (length ls) ≡ true →
+      allReduced N (allValues N ls n count vs) ≡ true
   outputs-reduced [] n count vs h = absurd (false≢true h)
   outputs-reduced (l ∷ ls) n count vs h = allValues-reduced l ls n count vs
 
@@ -82,15 +83,17 @@ module _ {K : Type 0} {N : Numbers K} (F : Field N) where
       let full : length vs ≡ 2 ^ c .copies * 2 ^ c .inputs = long ∙ pow-add 2 (c .copies) (c .inputs) in
       let outs : length (outputs N c vs) ≡ 2 ^ first =
       allValues-full N (c .layers) (c .inputs) (parts .1) (c .copies) vs (le-of-eq (sym full)) ∙ sym (pow-add 2 (c .copies) (outputSize c)) in
-      union N first later first (layerChances (c .copies) (c .layers) (c .inputs)) (λ z. equal (mle N claimed z) (mle N (outputs N c vs) z)) (accepts N c vs claimed f)
-      (tables-agree F first claimed (outputs N c vs) many outs fine (outputs-reduced (c .layers) (2 ^ c .inputs) (2 ^ c .copies) vs (parts .0)) wrong)
+      union N first later first (layerChances (c .copies) (c .layers) (c .inputs))
+      (λ z. equal (mle N claimed z) (mle N (outputs N c vs) z)) (accepts N c vs claimed f)
+      (tables-agree F first claimed (outputs N c vs) many outs fine
+      (outputs-reduced (c .layers) (2 ^ c .inputs) (2 ^ c .copies) vs (parts .0)) wrong)
       (λ z row differ.
       let there : length z ≡ first = row-length N first z row in
-      let believed : List K → Bool = believes N (c .copies) (c .layers) (c .inputs) vs (firstClaim N c claimed z) (λ told. f (z ++ told)) in
+      let believed : List K → Bool = believes N (c .copies) (c .layers) (c .inputs) vs (firstClaim N c claimed z) (λ later. f (z ++ later)) in
       le-trans
       (mul-le-mul-right order
       (sumRows-le N later (λ y. indicator (accepts N c vs claimed f (z ++ y))) (λ y. indicator (believed y))
       (λ y r. rw (take-at z y first there, drop-at z y first there) (indicator-second (eqb (length (z ++ y)) (coinsOf c)) (believed y)))))
-      (layers-few F (c .copies) (c .inputs) vs full (c .layers) (firstClaim N c claimed z) (λ told. f (z ++ told)) (parts .1)
+      (layers-few F (c .copies) (c .inputs) vs full (c .layers) (firstClaim N c claimed z) (λ later. f (z ++ later)) (parts .1)
       (length-take-le (c .copies) z (omega arith)) (omega (arith, length-drop (c .copies) z), tt)
       (λ e. equal-false F (mle N claimed z) (mle N (outputs N c vs) z) differ (e ∙ firstClaim-sum c (outputs N c vs) claimed z))))

@@ -4,7 +4,7 @@ use mathlib.Core.Path.{_≡_, refl, sym, ap, _∙_}
 use mathlib.Core.Bool.{Bool, true, false, _&&_}
 use mathlib.Core.List.{List, [], _∷_}
 use Prim.Native.Nat.{ℕ, zero, suc, _+_, _*_, _≤_, _^_, zero-le}
-use native.Mathlib.Nat.{zero-add, suc-add, suc-mul, zero-mul, mul-suc, le-refl, le-trans, le-of-eq, mul-le-mul-right, suc-inj, suc-ne-zero}
+use native.Mathlib.Nat.{zero-add, suc-add, zero-mul, suc-inj, suc-ne-zero}
 use native.Mathlib.Omega.{arith}
 use lib.Dec.{eqb}
 use lib.ListN.{length}
@@ -12,7 +12,6 @@ use Rattle.std.proofs.shelf.Tests.{and-parts, and-from, eqb-true}
 use Rattle.arithmetic.specs.Numbers.{Numbers, allReduced}
 use Rattle.arithmetic.specs.Counting.{indicator, countNumbers, countRows}
 use Rattle.arithmetic.specs.Cubic.{interpolate}
-use Rattle.arithmetic.proofs.Ring.{Ring}
 use Rattle.arithmetic.proofs.Field.{Field, equal-false, equal-yes}
 use Rattle.arithmetic.proofs.Counting.{Row, Coin, sumRows-equal, sumRows-zero, step}
 use Rattle.arithmetic.proofs.Truth.{path-of-T, T-of-path}
@@ -37,7 +36,9 @@ module _ {K : Type 0} {N : Numbers K} (F : Field N) where
       countRows N (suc n) test * order ≤ (k + B) * order ^ suc n
   coin-falls n k B true true bad test rest is few h =
       step N n k B bad test (few refl refl)
-      (λ c r e. rw (sumRows-equal N n (λ x. indicator (test (c ∷ x))) (λ x. indicator (rest c x)) (λ x s. ap indicator (is c x))) (h refl refl c r e))
+      (λ c r e.
+      rw (sumRows-equal N n (λ x. indicator (test (c ∷ x))) (λ x. indicator (rest c x)) (λ x s. ap indicator (is c x)))
+      (h refl refl c r e))
   coin-falls n k B true false bad test rest is few h = none (suc n) ((k + B) * order ^ suc n) test all
     where
       all : (x : List K) → Row N (suc n) x → test x ≡ false
@@ -86,9 +87,10 @@ module _ {K : Type 0} {N : Numbers K} (F : Field N) where
   answered (suc n) m G next later total smooth right h (r ∷ coins) e =
       let g : K → K = λ t. sumCorners N n (λ z. G (t ∷ z)) in
       let ys : List K = fourValues N g in
-      and-from (wellFormed N 4 ys) (equal (add (g (nat 0)) (g (nat 1))) total && rounds N n (λ point. next (r ∷ point)) (after r (respond N (suc n) G later)) (interpolate N ys r) coins)
+      let further : Bool = rounds N n (λ point. next (r ∷ point)) (after r (respond N (suc n) G later)) (interpolate N ys r) coins in
+      and-from (wellFormed N 4 ys) (equal (add (g (nat 0)) (g (nat 1))) total && further)
       (path-of-T (allReduced N ys) (values-reduced F g (smooth .0)))
-      (and-from (equal (add (g (nat 0)) (g (nat 1))) total) (rounds N n (λ point. next (r ∷ point)) (after r (respond N (suc n) G later)) (interpolate N ys r) coins)
+      (and-from (equal (add (g (nat 0)) (g (nat 1))) total) further
       (equal-yes F (add (g (nat 0)) (g (nat 1))) total (sym right))
       (answered n m (λ z. G (r ∷ z)) (λ point. next (r ∷ point)) (λ z. later (r ∷ z)) (interpolate N ys r) (smooth .1 r)
       (sym (cubic F g (smooth .0) r)) (λ z l. h (r ∷ z) (ap suc l)) coins (suc-inj (e ∙ suc-add n m))))

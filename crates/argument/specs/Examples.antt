@@ -8,7 +8,7 @@ use lib.Dec.{T}
 use Rattle.arithmetic.specs.Numbers.{Numbers, modulo}
 use Rattle.circuits.specs.Circuit.{Circuit, lawful, outputs}
 use Rattle.circuits.specs.Words.{circuitOf}
-use Rattle.argument.specs.Sumcheck.{Prover, wellFormed, nth, rounds}
+use Rattle.argument.specs.Sumcheck.{Prover, nth, rounds}
 use Rattle.argument.specs.Argument.{firstClaim, coinsOf, chancesOf, accepts}
 use Rattle.argument.specs.Honest.{honest}
 

@@ -1,7 +1,6 @@
 -- A cubic's four values one by one, and Newton's form written out as the code goes through it.
 -- For lists of numbers modulo p.
-use mathlib.Core.Path.{_≡_, refl, ap, _∙_}
-use mathlib.Core.Bool.{Bool, true, false, _&&_}
+use mathlib.Core.Path.{_≡_, refl, ap}
 use mathlib.Core.List.{List, [], _∷_}
 use Prim.Native.Nat.{ℕ, zero, suc, _+_, _*_, _%_, _<_}
 use native.Mathlib.Nat.{add-zero, mul-zero, zero-mod, mod-eq-of-lt, not-suc-le-zero, le-of-suc-le-suc}
@@ -10,18 +9,22 @@ use lib.Dec.{T, ltb, ltb→lt}
 use lib.ListN.{length, getD}
 use Rattle.arithmetic.specs.Numbers.{modulo, inverseModulo, allReduced}
 use Rattle.arithmetic.specs.Cubic.{interpolate, newton, differences}
-
-pub both-true : (a b : Bool) → T (a && b) → T a × T b
-both-true true b t = (tt, t)
-both-true false b t = absurd t
+use Rattle.arithmetic.proofs.Truth.{and-left, and-right}
 
 -- each number of a reduced list is below the modulus
 pub reduced-at : (p : ℕ) (xs : List ℕ) → T (allReduced (modulo p) xs) → (i : ℕ) → i < length xs → getD xs i 0 < p
 unfolding allReduced
 reduced-at p [] t i h = absurd (not-suc-le-zero h)
-reduced-at p (x ∷ xs) t zero h = ltb→lt x p (both-true (ltb x p) (allReduced (modulo p) xs) t .0)
+reduced-at p (x ∷ xs) t zero h = ltb→lt x p (and-left (ltb x p) (allReduced (modulo p) xs) t)
 reduced-at p (x ∷ xs) t (suc i) h =
-    reduced-at p xs (both-true (ltb x p) (allReduced (modulo p) xs) t .1) i (le-of-suc-le-suc h)
+    reduced-at p xs (and-right (ltb x p) (allReduced (modulo p) xs) t) i (le-of-suc-le-suc h)
+
+pub four-below :
+    (p : ℕ) (xs : List ℕ) → T (allReduced (modulo p) xs) → length xs ≡ 4 →
+    (getD xs 0 0 < p) × (getD xs 1 0 < p) × (getD xs 2 0 < p) × (getD xs 3 0 < p)
+four-below p xs t e =
+    let at : (i : ℕ) → i < length xs → getD xs i 0 < p = reduced-at p xs t in
+    (at 0 (omega arith), at 1 (omega arith), at 2 (omega arith), at 3 (omega arith))
 
 -- a list of four, place by place
 pub four-places : (xs : List ℕ) → length xs ≡ 4 → xs ≡ getD xs 0 0 ∷ getD xs 1 0 ∷ getD xs 2 0 ∷ getD xs 3 0 ∷ []

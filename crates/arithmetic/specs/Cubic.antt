@@ -1,6 +1,5 @@
 -- A polynomial given by its values at 0, 1, 2, .. and looked at anywhere, by Newton's differences.
 -- With inverses of 1, 2 and 3 at hand it takes up to four values: a cubic.
-use mathlib.Core.Path.{_≡_}
 use mathlib.Core.List.{List, [], _∷_}
 use Prim.Native.Nat.{ℕ, zero, suc, _+_}
 use lib.ListN.{length}

@@ -3,3 +3,4 @@
 pub mod cubic;
 pub mod mersenne;
 pub mod modular;
+pub mod promises;

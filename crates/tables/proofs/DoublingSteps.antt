@@ -2,20 +2,21 @@
 -- The last variable comes first.
 use mathlib.Core.Path.{_≡_, refl, sym, ap, ap₂, subst, _∙_}
 use mathlib.Core.List.{List, [], _∷_, _++_, map, append-assoc}
-use Prim.Native.Nat.{ℕ, zero, suc, _+_, _-_, _*_, _/_, _%_, _^_, _<_, _≤_}
-use native.Mathlib.Nat.{add-zero, add-assoc, two-pow-succ}
+use Prim.Native.Nat.{ℕ, suc, _+_, _-_, _*_, _/_, _%_, _^_, _<_, _≤_}
+use native.Mathlib.Nat.{add-zero, two-pow-succ}
 use native.Mathlib.Omega.{arith}
 use lib.Dec.{T}
 use lib.ListN.{length, getD, set, take, drop, length-append, length-take, length-drop, length-map}
 use lib.Pow.{pow-pos, pow-mono}
 use Rattle.std.specs.shelf.Lists.{between}
-use Rattle.std.proofs.shelf.Lists.{append-nil, length-take-le, getD-take, take-append-drop, take-take, take-at, drop-more, drop-all, drop-set-lt, set-at, getD-at, map-more}
+use Rattle.std.proofs.shelf.Lists.{append-nil, length-take-le, take-append-drop, take-take, take-at, drop-more, drop-all, drop-set-lt}
+use Rattle.std.proofs.shelf.Lists.{getD-take, getD-at, set-at, map-more}
 use Rattle.std.proofs.shelf.Parts.{drop-append-drop}
 use Rattle.arithmetic.specs.Numbers.{modulo, allReduced}
 use Rattle.arithmetic.proofs.Modulo.{ringModulo}
-use Rattle.arithmetic.proofs.Newton.{reduced-at}
 use Rattle.tables.specs.InPlace.{splitFirst, scaledEqTable}
 use Rattle.tables.proofs.EqSteps.{scaled-length, scaled-none, scaled-split, scaled-reduced}
+use Rattle.tables.proofs.ReducedLists.{reduced-anywhere}
 
 -- two writes, one in each half
 two-writes : {K : Type 0} (A B C D : List K) (x y low high : K) (half i : ℕ) → length A ≡ i → length C ≡ i → suc i + length B ≡ half →
@@ -71,9 +72,11 @@ module _ {K : Type 0} (low high : K → K) where
       let same : half + i + 1 ≡ half + (i + 1) = omega arith in
       ap₂ (λ (m n : List K). set (set (map low (take i xs) ++ (m ++ (map high (take i xs) ++ n))) (half + i) (high x)) i (low x))
       (between-next d half i xs h (omega arith)) (drop-more xs (half + i) d l)
-      ∙ two-writes (map low (take i xs)) (between (i + 1) half xs) (map high (take i xs)) (drop (half + i + 1) xs) x (getD xs (half + i) d) (low x) (high x) half i
+      ∙ two-writes (map low (take i xs)) (between (i + 1) half xs) (map high (take i xs)) (drop (half + i + 1) xs)
+      x (getD xs (half + i) d) (low x) (high x) half i
       (front-length low i xs (omega arith)) (front-length high i xs (omega arith)) rest-length
-      ∙ ap₂ (λ (a c : List K). a ++ (between (i + 1) half xs ++ (c ++ drop (half + i + 1) xs))) (sym (map-more low xs i d inside)) (sym (map-more high xs i d inside))
+      ∙ ap₂ (λ (a c : List K). a ++ (between (i + 1) half xs ++ (c ++ drop (half + i + 1) xs)))
+      (sym (map-more low xs i d inside)) (sym (map-more high xs i d inside))
       ∙ ap (λ (n : ℕ). map low (take (i + 1) xs) ++ (between (i + 1) half xs ++ (map high (take (i + 1) xs) ++ drop n xs))) same
     where
       rest-length : suc i + length (between (i + 1) half xs) ≡ half
@@ -82,114 +85,122 @@ module _ {K : Type 0} (low high : K → K) where
   pub partly-all : (half : ℕ) (xs : List K) → length xs ≡ half + half → partlySplit half half xs ≡ map low (take half xs) ++ map high (take half xs)
   partly-all half xs e =
       let none : half - half ≡ 0 = omega arith in
-      ap₂ (λ (m : ℕ) (n : List K). map low (take half xs) ++ (take m (drop half xs) ++ (map high (take half xs) ++ n))) none (drop-all (half + half) xs (omega arith))
+      ap₂ (λ (m : ℕ) (n : List K). map low (take half xs) ++ (take m (drop half xs) ++ (map high (take half xs) ++ n)))
+      none (drop-all (half + half) xs (omega arith))
       ∙ ap (λ (m : List K). map low (take half xs) ++ m) (append-nil (map high (take half xs)))
 
 -- the number that a turn reads is as it was at the start, so reduced
-pub partly-below : (p : ℕ) (low high : ℕ → ℕ) (half i : ℕ) (xs table : List ℕ) → table ≡ partlySplit low high half i xs → i < half → half ≤ length xs →
-    T (allReduced (modulo p) (take half xs)) → getD table i 0 < p
-partly-below p low high half i xs table e h l t =
-    let here : getD table i 0 ≡ getD (take half xs) i 0 =
-    ap (λ (l : List ℕ). getD l i 0) e ∙ partly-at low high 0 half i xs h l ∙ sym (getD-take half xs i 0 h)
-    in
-    let size : length (take half xs) ≡ half = length-take-le half xs l in
-    let below : getD (take half xs) i 0 < p = reduced-at p (take half xs) t i (omega arith) in
-    omega arith
+pub partly-below : (p : ℕ) → 0 < p → (low high : ℕ → ℕ) (half i : ℕ) (xs table : List ℕ) →
+    table ≡ partlySplit low high half i xs → i < half → half ≤ length xs → T (allReduced (modulo p) (take half xs)) → getD table i 0 < p
+partly-below p positive low high half i xs table e h l t =
+    subst (λ (x : ℕ). x < p)
+    (sym (ap (λ (l : List ℕ). getD l i 0) e ∙ partly-at low high 0 half i xs h l ∙ sym (getD-take half xs i 0 h)))
+    (reduced-anywhere p positive (take half xs) t i)
 
 -- The table of eq for the last `done` coordinates of a point, and past it the words that were there.
 pub record Doubling (p factor : ℕ) (point before out : List ℕ) (done len : ℕ) : Type 0 where
   pub size : len ≡ 2 ^ done
+  pub room : 2 ^ length point ≤ length out
   pub words : out ≡ scaledEqTable (modulo p) factor (drop (length point - done) point) ++ drop len before
 
-pub doubling-none : (p factor : ℕ) (point xs : List ℕ) → factor < p → 1 ≤ length xs → Doubling p factor point (set xs 0 factor) (set xs 0 factor) 0 1
-doubling-none p factor point [] h l = absurd (omega arith)
+pub doubling-none : (p factor : ℕ) (point xs : List ℕ) → factor < p → 2 ^ length point ≤ length xs →
+    Doubling p factor point (set xs 0 factor) (set xs 0 factor) 0 1
+doubling-none p factor point [] h l = absurd (omega (arith, pow-pos (length point)))
 doubling-none p factor point (x ∷ xs) h l =
     let none : drop (length point - 0) point ≡ [] = drop-all (length point - 0) point (omega arith) in
     record {
       size = refl;
+      room = l;
       words = sym (ap (λ (es : List ℕ). es ++ xs) (ap (scaledEqTable (modulo p) factor) none ∙ scaled-none p factor h));
     }
 
-table-length : (p factor : ℕ) (point before out : List ℕ) (done len : ℕ) → Doubling p factor point before out done len → done ≤ length point →
-    length (scaledEqTable (modulo p) factor (drop (length point - done) point)) ≡ len
-table-length p factor point before out done len h l =
-    let left : length (drop (length point - done) point) ≡ done = rw length-drop (omega arith) in
-    scaled-length (modulo p) factor (drop (length point - done) point) ∙ ap (λ (k : ℕ). 2 ^ k) left ∙ sym (h .size)
+-- One turn: the next table lies in the first `end` places, twice as many as the table so far, which is the first half of it.
+module _ {p factor : ℕ} {point before out : List ℕ} {done len : ℕ} (h : Doubling p factor point before out done len) where
+  pub doubling-room : done < length point → len * 2 ≤ length out
+  doubling-room l =
+      let more : 2 ^ suc done ≤ 2 ^ length point = pow-mono l in
+      let twice = two-pow-succ done in
+      let size = h .size in
+      let room = h .room in
+      omega arith
 
--- the next variable's table has room
-pub doubling-room : (p factor : ℕ) (point before out : List ℕ) (done len room : ℕ) → Doubling p factor point before out done len →
-    done < length point → 2 ^ length point ≤ room → len * 2 ≤ room
-doubling-room p factor point before out done len room h l most =
-    let more : 2 ^ suc done ≤ 2 ^ length point = pow-mono l in
-    let twice = two-pow-succ done in
-    let size = h .size in
-    omega arith
+  table-length : done ≤ length point → length (scaledEqTable (modulo p) factor (drop (length point - done) point)) ≡ len
+  table-length l =
+      let left : length (drop (length point - done) point) ≡ done = rw length-drop (omega arith) in
+      scaled-length (modulo p) factor (drop (length point - done) point) ∙ ap (λ (k : ℕ). 2 ^ k) left ∙ sym (h .size)
 
--- the table so far is the first half of the next one's place
-doubling-live : (p factor : ℕ) (point before out : List ℕ) (done len end : ℕ) → end ≡ len * 2 → Doubling p factor point before out done len →
-    done < length point → len * 2 ≤ length out →
-    take (length (take end out) / 2) (take end out) ≡ scaledEqTable (modulo p) factor (drop (length point - done) point)
-doubling-live p factor point before out done len end same h l room =
-    let whole : length (take end out) ≡ end = length-take-le end out (omega arith) in
-    let half : length (take end out) / 2 ≡ len = omega arith in
-    ap (λ (n : ℕ). take n (take end out)) half ∙ take-take len end out (omega arith) ∙ ap (take len) (h .words)
-    ∙ take-at (scaledEqTable (modulo p) factor (drop (length point - done) point)) (drop len before) len
-    (table-length p factor point before out done len h (omega arith))
+  place-length : (end : ℕ) → end ≡ len * 2 → done < length point → length (take end out) ≡ end
+  place-length end same l = length-take-le end out (omega (arith, doubling-room l))
 
--- so it may be split
-pub doubling-even : (out : List ℕ) (len end : ℕ) → end ≡ len * 2 → len * 2 ≤ length out → length (take end out) % 2 ≡ 0
-doubling-even out len end same room =
-    let whole : length (take end out) ≡ end = length-take-le end out (omega arith) in
-    omega arith
+  first-half : (end : ℕ) → end ≡ len * 2 → done < length point →
+      take (length (take end out) / 2) (take end out) ≡ scaledEqTable (modulo p) factor (drop (length point - done) point)
+  first-half end same l =
+      let half : length (take end out) / 2 ≡ len = omega (arith, place-length end same l) in
+      ap (λ (n : ℕ). take n (take end out)) half ∙ take-take len end out (omega arith) ∙ ap (take len) (h .words)
+      ∙ take-at (scaledEqTable (modulo p) factor (drop (length point - done) point)) (drop len before) len (table-length (omega arith))
 
-pub doubling-reduced : (p factor : ℕ) → 0 < p → (point before out : List ℕ) (done len end : ℕ) → end ≡ len * 2 → Doubling p factor point before out done len →
-    done < length point → len * 2 ≤ length out →
-    T (allReduced (modulo p) (take (length (take end out) / 2) (take end out)))
-doubling-reduced p factor positive point before out done len end same h l room =
-    subst (λ (es : List ℕ). T (allReduced (modulo p) es)) (sym (doubling-live p factor point before out done len end same h l room))
-    (scaled-reduced p positive factor (drop (length point - done) point))
+  pub place-even : (end : ℕ) → end ≡ len * 2 → done < length point → length (take end out) % 2 ≡ 0
+  place-even end same l = omega (arith, place-length end same l)
 
--- one variable more: `live` is what splitting made of the place of the next table
-pub doubling-more : (p factor : ℕ) → 1 < p → (point before out live : List ℕ) (done len end : ℕ) → end ≡ len * 2 → Doubling p factor point before out done len →
-    done < length point → len * 2 ≤ length out →
-    live ≡ splitFirst (modulo p) (getD point (length point - 1 - done) 0) (take (length (take end out) / 2) (take end out)) →
-    Doubling p factor point before (live ++ drop end out) (done + 1) (len * 2)
-doubling-more p factor several point before out live done len end same h l room e = record { size = doubled; words = ap₂ _++_ made kept }
-  where
-    r : ℕ
-    r = getD point (length point - 1 - done) 0
+  pub first-half-reduced : 0 < p → (end : ℕ) → end ≡ len * 2 → done < length point →
+      T (allReduced (modulo p) (take (length (take end out) / 2) (take end out)))
+  first-half-reduced positive end same l =
+      subst (λ (es : List ℕ). T (allReduced (modulo p) es)) (sym (first-half end same l))
+      (scaled-reduced p positive factor (drop (length point - done) point))
 
-    doubled : len * 2 ≡ 2 ^ (done + 1)
-    doubled =
-        let next : done + 1 ≡ suc done = omega arith in
-        let size = h .size in
-        let twice = two-pow-succ done in
-        let twice-len : len * 2 ≡ 2 ^ suc done = omega arith in
-        twice-len ∙ ap (λ (k : ℕ). 2 ^ k) (sym next)
+  -- `live` is what splitting made of the next table's place
+  pub doubling-more : 1 < p → (live : List ℕ) (end : ℕ) → end ≡ len * 2 → done < length point →
+      live ≡ splitFirst (modulo p) (getD point (length point - 1 - done) 0) (take (length (take end out) / 2) (take end out)) →
+      Doubling p factor point before (live ++ drop end out) (done + 1) (len * 2)
+  doubling-more several live end same l e =
+      record { size = doubled; room = longer; words = ap₂ _++_ made kept }
+    where
+      r : ℕ
+      r = getD point (length point - 1 - done) 0
 
-    next-point : r ∷ drop (length point - done) point ≡ drop (length point - (done + 1)) point
-    next-point =
-        let inside : length point - 1 - done < length point = omega arith in
-        let after : length point - 1 - done + 1 ≡ length point - done = omega arith in
-        let here : length point - 1 - done ≡ length point - (done + 1) = omega arith in
-        sym (ap (λ (n : ℕ). drop n point) (sym here) ∙ drop-more point (length point - 1 - done) 0 inside ∙ ap (λ (n : ℕ). r ∷ drop n point) after)
+      doubled : len * 2 ≡ 2 ^ (done + 1)
+      doubled =
+          let next : suc done ≡ done + 1 = omega arith in
+          let size = h .size in
+          let twice = two-pow-succ done in
+          let twice-len : len * 2 ≡ 2 ^ suc done = omega arith in
+          twice-len ∙ ap (λ (k : ℕ). 2 ^ k) next
 
-    made : live ≡ scaledEqTable (modulo p) factor (drop (length point - (done + 1)) point)
-    made =
-        e ∙ ap (splitFirst (modulo p) r) (doubling-live p factor point before out done len end same h l room)
-        ∙ scaled-split (ringModulo p several) factor r (drop (length point - done) point)
-        ∙ ap (scaledEqTable (modulo p) factor) next-point
+      next-point : r ∷ drop (length point - done) point ≡ drop (length point - (done + 1)) point
+      next-point =
+          let inside : length point - 1 - done < length point = omega arith in
+          let after : length point - 1 - done + 1 ≡ length point - done = omega arith in
+          let here : length point - 1 - done ≡ length point - (done + 1) = omega arith in
+          sym (ap (λ (n : ℕ). drop n point) (sym here) ∙ drop-more point (length point - 1 - done) 0 inside ∙ ap (λ (n : ℕ). r ∷ drop n point) after)
 
-    kept : drop end out ≡ drop (len * 2) before
-    kept =
-        ap₂ drop same (h .words)
-        ∙ drop-append-drop len before (scaledEqTable (modulo p) factor (drop (length point - done) point)) (len * 2) (omega arith)
-        (table-length p factor point before out done len h (omega arith))
+      made : live ≡ scaledEqTable (modulo p) factor (drop (length point - (done + 1)) point)
+      made =
+          e ∙ ap (splitFirst (modulo p) r) (first-half end same l)
+          ∙ scaled-split (ringModulo p several) factor r (drop (length point - done) point)
+          ∙ ap (scaledEqTable (modulo p) factor) next-point
+
+      kept : drop end out ≡ drop (len * 2) before
+      kept =
+          ap₂ drop same (h .words)
+          ∙ drop-append-drop len before (scaledEqTable (modulo p) factor (drop (length point - done) point)) (len * 2) (omega arith)
+          (table-length (omega arith))
+
+      live-length : length live ≡ len * 2
+      live-length =
+          let left : length (drop (length point - (done + 1)) point) ≡ done + 1 = rw length-drop (omega arith) in
+          ap length made ∙ scaled-length (modulo p) factor (drop (length point - (done + 1)) point) ∙ ap (λ (k : ℕ). 2 ^ k) left ∙ sym doubled
+
+      longer : 2 ^ length point ≤ length (live ++ drop end out)
+      longer =
+          let room = h .room in
+          let size = live-length in
+          simp (length-append, length-drop) (omega arith)
 
 -- at the end the table is that of the whole point; the first write lay within it
-pub doubling-all : (p factor : ℕ) (point xs out : List ℕ) (done len : ℕ) → Doubling p factor point (set xs 0 factor) out done len → done ≡ length point →
+pub doubling-all : {p factor : ℕ} {point : List ℕ} (xs : List ℕ) {out : List ℕ} {done len : ℕ} →
+    Doubling p factor point (set xs 0 factor) out done len → done ≡ length point →
     out ≡ scaledEqTable (modulo p) factor point ++ drop (2 ^ length point) xs
-doubling-all p factor point xs out done len h end =
+doubling-all {p} {factor} {point} xs {out} {done} {len} h end =
     let none : length point - done ≡ 0 = omega arith in
     let all : len ≡ 2 ^ length point = h .size ∙ ap (λ (k : ℕ). 2 ^ k) end in
     h .words ∙ ap₂ (λ (m n : ℕ). scaledEqTable (modulo p) factor (drop m point) ++ drop n (set xs 0 factor)) none all

@@ -1,8 +1,8 @@
 -- The eq polynomial from the last variable on, and its table over all corners: what stands at each place,
 -- and how one variable more splits each number in two.
-use mathlib.Core.Path.{_≡_, refl, sym, ap, ap₂, subst, _∙_}
+use mathlib.Core.Path.{_≡_, refl, sym, ap, ap₂, _∙_}
 use mathlib.Core.List.{List, [], _∷_, _++_, map}
-use Prim.Native.Nat.{ℕ, zero, suc, _+_, _-_, _*_, _/_, _%_, _^_, _<_, _≤_}
+use Prim.Native.Nat.{ℕ, suc, _+_, _-_, _%_, _^_, _<_, _≤_}
 use native.Mathlib.Nat.{mod-lt, mod-mod, mod-eq-of-lt, mul-one, two-pow-succ}
 use native.Mathlib.Decide.{decLt}
 use native.Mathlib.Omega.{arith}
@@ -100,7 +100,8 @@ module _ {K : Type 0} {N : Numbers K} (R : Ring N) where
   unfolding eqTable
   eqTable-cons r z =
       sym
-      (joined-halves (nat 0) (mul (sub (nat 1) r)) (mul r) (λ (place : ℕ). eqPoly N (bitsOf N (suc (length z)) place) (r ∷ z)) (eqTable N z) (length z) (eqTable-length N z)
+      (joined-halves (nat 0) (mul (sub (nat 1) r)) (mul r) (λ (place : ℕ). eqPoly N (bitsOf N (suc (length z)) place) (r ∷ z))
+      (eqTable N z) (length z) (eqTable-length N z)
       (λ j h. ap (mul (sub (nat 1) r)) (eqTable-at N z j (nat 0) h) ∙ sym (eq-low r z j h))
       (λ j h. ap (mul r) (eqTable-at N z j (nat 0) h) ∙ sym (eq-high r z j h)))
 
@@ -108,7 +109,8 @@ module _ {K : Type 0} {N : Numbers K} (R : Ring N) where
   pub scaled-split : (f r : K) (z : List K) → splitFirst N r (scaledEqTable N f z) ≡ scaledEqTable N f (r ∷ z)
   unfolding scaledEqTable
   scaled-split f r z =
-      joined-halves (nat 0) (lowPart N r) (highPart N r) (λ (place : ℕ). mul f (eqPoly N (bitsOf N (suc (length z)) place) (r ∷ z))) (scaledEqTable N f z) (length z) (scaled-length N f z)
+      joined-halves (nat 0) (lowPart N r) (highPart N r) (λ (place : ℕ). mul f (eqPoly N (bitsOf N (suc (length z)) place) (r ∷ z)))
+      (scaledEqTable N f z) (length z) (scaled-length N f z)
       (λ j h. ap (lowPart N r) (scaled-at N f z j (nat 0) h) ∙ low (eqPoly N (bitsOf N (length z) j) z) ∙ sym (ap (mul f) (eq-low r z j h)))
       (λ j h. ap (highPart N r) (scaled-at N f z j (nat 0) h) ∙ high (eqPoly N (bitsOf N (length z) j) z) ∙ sym (ap (mul f) (eq-high r z j h)))
     where
@@ -136,5 +138,6 @@ module _ (p : ℕ) where
   pub scaled-one : 1 < p → (z : List ℕ) → scaledEqTable (modulo p) 1 z ≡ eqTable (modulo p) z
   unfolding eqTable
   scaled-one h z =
-      fill-by-all (λ (place : ℕ). eqPoly (modulo p) (bitsOf (modulo p) (length z) place) z) (scaledEqTable (modulo p) 1 z) (2 ^ length z) 0 (scaled-length (modulo p) 1 z)
+      fill-by-all (λ (place : ℕ). eqPoly (modulo p) (bitsOf (modulo p) (length z) place) z)
+      (scaledEqTable (modulo p) 1 z) (2 ^ length z) 0 (scaled-length (modulo p) 1 z)
       (λ j l. scaled-at (modulo p) 1 z j 0 l ∙ one-mul (ringModulo p h) _ ∙ reduce-eqPoly h _ z)

@@ -1,22 +1,22 @@
 -- A table being halved in place, step by step: the first i places fixed, the others as they were.
 -- And a table being halved again and again, its live part first.
-use mathlib.Core.Path.{_≡_, refl, sym, ap, ap₂, subst, _∙_}
+use mathlib.Core.Path.{_≡_, refl, sym, ap, ap₂, _∙_}
 use mathlib.Core.List.{List, [], _∷_, _++_, append-assoc}
-use Prim.Native.Nat.{ℕ, zero, suc, _+_, _-_, _*_, _/_, _%_, _^_, _<_, _≤_}
+use Prim.Native.Nat.{ℕ, zero, suc, _+_, _-_, _/_, _%_, _^_, _<_, _≤_}
 use native.Mathlib.Nat.{mod-lt, mod-eq-of-lt, le-of-suc-le-suc, not-suc-le-zero, two-pow-succ}
 use native.Mathlib.Numerals.{add-one}
 use native.Mathlib.Omega.{arith}
 use lib.Dec.{T, ltb, lt→ltb}
-use lib.ListN.{length, getD, set, take, drop, length-append, length-take, length-drop}
-use Rattle.std.proofs.shelf.Lists.{append-nil, length-take-le, take-append-drop, getD-take, set-at, getD-drop, getD-append-right, drop-more, drop-all, take-all, take-at, drop-at}
+use lib.ListN.{length, getD, set, take, drop, length-append, length-drop}
+use Rattle.std.proofs.shelf.Lists.{append-nil, length-take-le, take-append-drop, getD-take, set-at, getD-drop}
+use Rattle.std.proofs.shelf.Lists.{getD-append-right, drop-more, drop-all, take-all, take-at, drop-at}
 use Rattle.arithmetic.specs.Numbers.{Numbers, modulo, allReduced}
 use Rattle.arithmetic.proofs.Modulo.{ringModulo}
-use Rattle.arithmetic.proofs.Newton.{reduced-at}
 use Rattle.arithmetic.proofs.Solver.{var, con, _:+_, _:*_, _:-_, solve}
 use Rattle.arithmetic.proofs.Truth.{and-both}
 use Rattle.tables.specs.InPlace.{onLine, halvedAll}
 use Rattle.tables.specs.Multilinear.{blend, fixFirst, mle}
-use Rattle.tables.proofs.ReducedLists.{reduced-append, reduced-drop}
+use Rattle.tables.proofs.ReducedLists.{reduced-anywhere, reduced-append, reduced-drop}
 
 -- one multiplication does what two did
 pub on-line : (p : ℕ) → 1 < p → (r a b : ℕ) →
@@ -70,7 +70,9 @@ module _ {K : Type 0} (N : Numbers K) where
       ∙ sym (append-assoc fixed (x ∷ []) (drop (i + 1) xs))
       ∙ ap (λ (l : List K). l ++ drop (i + 1) xs) (sym longer)
     where
-      longer : blend N r (take (i + 1) xs) (drop half xs) ≡ blend N r (take i xs) (drop half xs) ++ (onLine N r (getD xs i d) (getD xs (half + i) d) ∷ [])
+      longer :
+          blend N r (take (i + 1) xs) (drop half xs) ≡
+          blend N r (take i xs) (drop half xs) ++ (onLine N r (getD xs i d) (getD xs (half + i) d) ∷ [])
       longer =
           let second : i < length (drop half xs) = rw length-drop (omega arith) in
           ap (λ (n : ℕ). blend N r (take n xs) (drop half xs)) (add-one i)
@@ -86,9 +88,11 @@ blend-reduced p h r (x ∷ xs) (y ∷ ys) =
     (lt→ltb (onLine (modulo p) r x y) p (mod-lt _ h)) (blend-reduced p h r xs ys)
 
 -- a table stays reduced while it is halved
-pub partly-reduced : (p : ℕ) → 0 < p → (r half i : ℕ) (xs : List ℕ) → T (allReduced (modulo p) xs) → T (allReduced (modulo p) (partlyFixed (modulo p) r half i xs))
+pub partly-reduced : (p : ℕ) → 0 < p → (r half i : ℕ) (xs : List ℕ) → T (allReduced (modulo p) xs) →
+    T (allReduced (modulo p) (partlyFixed (modulo p) r half i xs))
 partly-reduced p h r half i xs t =
-    reduced-append p (blend (modulo p) r (take i xs) (drop half xs)) (drop i xs) (blend-reduced p h r (take i xs) (drop half xs)) (reduced-drop p i xs t)
+    reduced-append p (blend (modulo p) r (take i xs) (drop half xs)) (drop i xs)
+    (blend-reduced p h r (take i xs) (drop half xs)) (reduced-drop p i xs t)
 
 -- A table after the first i coordinates of a point: its first `len` numbers are live, and lead to the same value and the same words.
 pub record Halving (p : ℕ) (xs point table : List ℕ) (i len : ℕ) : Type 0 where
@@ -110,27 +114,30 @@ halving-none p xs point e t =
       reduced = t;
     }
 
--- one coordinate more: `live` is what fixing it made of the live part
-pub halving-more : (p : ℕ) (xs point table live : List ℕ) (i len : ℕ) → Halving p xs point table i len → i < length point →
-    live ≡ fixFirst (modulo p) (getD point i 0) (take len table) ++ drop (length (take len table) / 2) (take len table) →
+-- one coordinate more: `live` is what fixing it made of the live part, whose end is `end`
+pub halving-more : {p : ℕ} {xs point table : List ℕ} {i len : ℕ} →
+    Halving p xs point table i len → (live : List ℕ) (end : ℕ) → end ≡ len → i < length point →
+    live ≡ fixFirst (modulo p) (getD point i 0) (take end table) ++ drop (length (take end table) / 2) (take end table) →
     T (allReduced (modulo p) live) →
-    Halving p xs point (live ++ drop len table) (i + 1) (len / 2)
+    Halving p xs point (live ++ drop end table) (i + 1) (len / 2)
 unfolding mle halvedAll
-halving-more p xs point table live i len h inside e t =
+halving-more {p} {xs} {point} {table} {i} {len} h live end same inside e t =
     record {
       size = halved;
       fits = simp length-append (omega (arith, ap length e, length-append fixed rest, half-length));
-      value = ap (λ (l : List ℕ). mle (modulo p) l (drop (i + 1) point)) front-live ∙ sym (ap (mle (modulo p) before) next) ∙ h .value;
+      value =
+          ap (λ (l : List ℕ). mle (modulo p) l (drop (i + 1) point)) front-live
+          ∙ sym (ap (mle (modulo p) before) next) ∙ ap (λ (n : ℕ). mle (modulo p) (take n table) (drop i point)) same ∙ h .value;
       words =
           ap₂ (λ (l m : List ℕ). halvedAll (modulo p) l (drop (i + 1) point) ++ m) front-live rest-live
-          ∙ sym (append-assoc (halvedAll (modulo p) fixed (drop (i + 1) point)) rest (drop len table))
-          ∙ sym (ap (λ (l : List ℕ). halvedAll (modulo p) before l ++ drop len table) next)
-          ∙ h .words;
-      reduced = reduced-append p live (drop len table) t (reduced-drop p len table (h .reduced));
+          ∙ sym (append-assoc (halvedAll (modulo p) fixed (drop (i + 1) point)) rest (drop end table))
+          ∙ sym (ap (λ (l : List ℕ). halvedAll (modulo p) before l ++ drop end table) next)
+          ∙ ap (λ (n : ℕ). halvedAll (modulo p) (take n table) (drop i point) ++ drop n table) same ∙ h .words;
+      reduced = reduced-append p live (drop end table) t (reduced-drop p end table (h .reduced));
     }
   where
     before : List ℕ
-    before = take len table
+    before = take end table
 
     fixed : List ℕ
     fixed = fixFirst (modulo p) (getD point i 0) before
@@ -144,40 +151,30 @@ halving-more p xs point table live i len h inside e t =
     halved : len / 2 ≡ 2 ^ (length point - (i + 1))
     halved =
         let left : length point - i ≡ suc (length point - (i + 1)) = omega arith in
-        let twice : len ≡ 2 ^ (length point - (i + 1)) + 2 ^ (length point - (i + 1)) = h .size ∙ ap (λ (k : ℕ). 2 ^ k) left ∙ two-pow-succ (length point - (i + 1)) in
+        let twice : len ≡ 2 ^ (length point - (i + 1)) + 2 ^ (length point - (i + 1)) =
+        h .size ∙ ap (λ (k : ℕ). 2 ^ k) left ∙ two-pow-succ (length point - (i + 1))
+        in
         omega arith
 
     half-length : length fixed ≡ len / 2
     half-length =
         front (modulo p) (getD point i 0) (length before / 2) (length before / 2) before (omega arith)
-        ∙ ap (λ (n : ℕ). n / 2) (length-take-le len table (h .fits))
+        ∙ ap (λ (n : ℕ). n / 2) (length-take-le end table (omega (arith, h .fits)) ∙ same)
 
-    joined : live ++ drop len table ≡ fixed ++ (rest ++ drop len table)
-    joined = ap (λ (l : List ℕ). l ++ drop len table) e ∙ append-assoc fixed rest (drop len table)
+    joined : live ++ drop end table ≡ fixed ++ (rest ++ drop end table)
+    joined = ap (λ (l : List ℕ). l ++ drop end table) e ∙ append-assoc fixed rest (drop end table)
 
-    front-live : take (len / 2) (live ++ drop len table) ≡ fixed
-    front-live = ap (take (len / 2)) joined ∙ take-at fixed (rest ++ drop len table) (len / 2) half-length
+    front-live : take (len / 2) (live ++ drop end table) ≡ fixed
+    front-live = ap (take (len / 2)) joined ∙ take-at fixed (rest ++ drop end table) (len / 2) half-length
 
-    rest-live : drop (len / 2) (live ++ drop len table) ≡ rest ++ drop len table
-    rest-live = ap (drop (len / 2)) joined ∙ drop-at fixed (rest ++ drop len table) (len / 2) half-length
-
--- the same, with the live part's end as a part of a slice has it
-pub halving-cut : (p : ℕ) (xs point table live : List ℕ) (i len end : ℕ) → end ≡ len → Halving p xs point table i len → i < length point →
-    live ≡ fixFirst (modulo p) (getD point i 0) (take end table) ++ drop (length (take end table) / 2) (take end table) →
-    T (allReduced (modulo p) live) →
-    Halving p xs point (live ++ drop end table) (i + 1) (len / 2)
-halving-cut p xs point table live i len end same h inside =
-    let P : ℕ → Type 0 =
-    λ n. live ≡ fixFirst (modulo p) (getD point i 0) (take n table) ++ drop (length (take n table) / 2) (take n table) →
-    T (allReduced (modulo p) live) → Halving p xs point (live ++ drop n table) (i + 1) (len / 2)
-    in
-    subst P (sym same) (halving-more p xs point table live i len h inside)
+    rest-live : drop (len / 2) (live ++ drop end table) ≡ rest ++ drop end table
+    rest-live = ap (drop (len / 2)) joined ∙ drop-at fixed (rest ++ drop end table) (len / 2) half-length
 
 -- at the end one number is live, and it is the value
-pub halving-all : (p : ℕ) (xs point table : List ℕ) (i len : ℕ) → Halving p xs point table i len → length point ≤ i →
+pub halving-all : {p : ℕ} {xs point table : List ℕ} {i len : ℕ} → Halving p xs point table i len → 0 < p → length point ≤ i →
     (getD table 0 0 ≡ mle (modulo p) xs point) × (getD table 0 0 < p) × (table ≡ halvedAll (modulo p) xs point)
 unfolding mle halvedAll
-halving-all p xs point table i len h end = (sym small ∙ value, below, words)
+halving-all {p} {xs} {point} {table} {i} {len} h positive end = (sym small ∙ value, below, words)
   where
     none : drop i point ≡ []
     none = drop-all i point end
@@ -188,7 +185,7 @@ halving-all p xs point table i len h end = (sym small ∙ value, below, words)
         h .size ∙ ap (λ (k : ℕ). 2 ^ k) left
 
     below : getD table 0 0 < p
-    below = reduced-at p table (h .reduced) 0 (omega (arith, one, h .fits))
+    below = reduced-anywhere p positive table (h .reduced) 0
 
     small : getD table 0 0 % p ≡ getD table 0 0
     small = mod-eq-of-lt below

@@ -44,8 +44,8 @@ pub fn mle_at<M: Modular>(table: &mut [u32], point: &[u32]) -> u32
     ensures reduced { λ _. ⌜ T (allReduced (modulo modulus) (now (table .exit))) ⌝ }
 {
     let mut len = table.len();
-    for r in point {
-        fix_first::<M>(&mut table[0..len], *r);
+    for i in 0..point.len() {
+        fix_first::<M>(&mut table[0..len], point[i]);
         len /= 2;
     }
     table[0]

@@ -2,3 +2,5 @@
 // All of it is done in memory that the caller lends.
 pub mod eq;
 pub mod halving;
+#[cfg(test)]
+mod tests;

@@ -8,37 +8,29 @@ use borrow.Author.Needs.{needs}
 use lib.ListN.{length, getD}
 use Rattle.arithmetic.specs.Numbers.{modulo}
 use Rattle.arithmetic.specs.Cubic.{interpolate}
-use Rattle.arithmetic.proofs.Newton.{reduced-at, four-places, newton-steps}
+use Rattle.arithmetic.proofs.Newton.{four-below, four-places, newton-steps}
 use Rattle.arithmetic.proofs.cubic.cubic_at.Given as given
 use Rattle.arithmetic.proofs.cubic.cubic_at.Needs as need
 
 pub sub-first-requires : need.sub-first-requires
 sub-first-requires g c κs =
     let four : length (c .args .values) ≡ 4 = search needs in
-    let at = reduced-at _ (c .args .values) (c .pre .reduced) in
-    (at 1 (omega arith), at 0 (omega arith))
+    omega (arith, four-below _ (c .args .values) (c .pre .reduced) four)
 
 pub sub-after-first-requires : need.sub-after-first-requires
 sub-after-first-requires g c κs =
     let four : length (c .args .values) ≡ 4 = search needs in
-    let at = reduced-at _ (c .args .values) (c .pre .reduced) in
-    (at 2 (omega arith), at 1 (omega arith))
+    omega (arith, four-below _ (c .args .values) (c .pre .reduced) four)
 
 pub sub-last-requires : need.sub-last-requires
 sub-last-requires g c κs =
     let four : length (c .args .values) ≡ 4 = search needs in
-    let at = reduced-at _ (c .args .values) (c .pre .reduced) in
-    (at 3 (omega arith), at 2 (omega arith))
+    omega (arith, four-below _ (c .args .values) (c .pre .reduced) four)
 
 pub newton-step-requires : need.newton-step-requires
 newton-step-requires g c κs =
     let four : length (c .args .values) ≡ 4 = search needs in
-    let at = reduced-at _ (c .args .values) (c .pre .reduced) in
-    record {
-      given = (at 0 (omega arith), c .pre .x-below);
-      rest-below = c .newton-step-middle .ensures .below;
-      i-small = omega arith;
-    }
+    omega (arith, four-below _ (c .args .values) (c .pre .reduced) four)
 
 pub returns : need.returns
 returns g c =

@@ -4,9 +4,9 @@ use Prim.Native.Nat.{ℕ, _+_, _-_, _<_}
 use native.Mathlib.Omega.{arith}
 use lib.ListN.{length, drop}
 use Rattle.arithmetic.specs.Numbers.{modulo}
-use Rattle.arithmetic.proofs.Newton.{reduced-at}
 use Rattle.tables.specs.Multilinear.{eqPoly}
 use Rattle.tables.proofs.EqSteps.{eq-none, eq-more}
+use Rattle.tables.proofs.ReducedLists.{reduced-anywhere}
 use Rattle.tables.proofs.eq.eq_at.Needs as need
 
 pub loop-i-holds : need.loop-i-holds
@@ -17,8 +17,8 @@ loop-i-holds g c =
 pub eq-factor-requires : need.eq-factor-requires
 eq-factor-requires g c κs =
     let p = g .M·Modular .modulus in
-    let place : c .loop-i .i - 1 < length (c .args .a .now) = omega arith in
-    (reduced-at p (c .args .a .now) (c .pre .a-reduced) (c .loop-i .i - 1) place, reduced-at p (c .args .b .now) (c .pre .b-reduced) (c .loop-i .i - 1) (omega arith))
+    let positive : 0 < p = omega (arith, g .M·Modular·met .above) in
+    (reduced-anywhere p positive (c .args .a .now) (c .pre .a-reduced) _, reduced-anywhere p positive (c .args .b .now) (c .pre .b-reduced) _)
 
 pub loop-i-again : need.loop-i-again
 loop-i-again g c =

@@ -1,5 +1,5 @@
 -- A factor of 1 changes nothing.
-use mathlib.Core.Path.{ap, subst, _∙_}
+use mathlib.Core.Path.{_≡_, subst}
 use mathlib.Core.List.{List, _++_}
 use Prim.Native.Nat.{ℕ, _^_, _<_}
 use native.Mathlib.Omega.{arith}
@@ -16,6 +16,8 @@ returns g c =
     let several : 1 < p = omega (arith, g .M·Modular·met .above) in
     let one = scaled-one p several point in
     record {
-      words = c .eq-table-scaled .ensures .words ∙ ap (λ (es : List ℕ). es ++ drop (2 ^ length point) (c .args .out .now)) one;
+      words =
+          subst (λ (es : List ℕ). c .eq-table-scaled .last .out ≡ es ++ drop (2 ^ length point) (c .args .out .now)) one
+          (c .eq-table-scaled .ensures .words);
       reduced = subst (λ (es : List ℕ). T (allReduced (modulo p) es)) one (c .eq-table-scaled .ensures .reduced);
     }

@@ -1,6 +1,6 @@
 -- Each turn reads a number of the first half as it was at the start, and writes its two parts.
 use mathlib.Core.Path.{_≡_, ap, _∙_}
-use Prim.Native.Nat.{ℕ, _/_}
+use Prim.Native.Nat.{ℕ, _/_, _<_}
 use native.Mathlib.Omega.{arith}
 use lib.ListN.{length}
 use Rattle.arithmetic.specs.Numbers.{modulo}
@@ -17,8 +17,9 @@ pub mul-high-requires : need.mul-high-requires
 mul-high-requires g c κs =
     let p = g .M·Modular .modulus in
     let xs = c .args .table .now in
+    let positive : 0 < p = omega (arith, g .M·Modular·met .above) in
     let below =
-    partly-below p (lowPart (modulo p) (c .args .r)) (highPart (modulo p) (c .args .r)) (length xs / 2) (c .loop-i .i) xs (c .loop-i .table)
+    partly-below p positive (lowPart (modulo p) (c .args .r)) (highPart (modulo p) (c .args .r)) (length xs / 2) (c .loop-i .i) xs (c .loop-i .table)
     (c .loop-i .inv) (c .loop-i-test .taken) (omega arith) (c .pre .reduced)
     in
     (below, c .pre .r-below)
@@ -27,8 +28,9 @@ pub sub-requires : need.sub-requires
 sub-requires g c κs =
     let p = g .M·Modular .modulus in
     let xs = c .args .table .now in
+    let positive : 0 < p = omega (arith, g .M·Modular·met .above) in
     let below =
-    partly-below p (lowPart (modulo p) (c .args .r)) (highPart (modulo p) (c .args .r)) (length xs / 2) (c .loop-i .i) xs (c .loop-i .table)
+    partly-below p positive (lowPart (modulo p) (c .args .r)) (highPart (modulo p) (c .args .r)) (length xs / 2) (c .loop-i .i) xs (c .loop-i .table)
     (c .loop-i .inv) (c .loop-i-test .taken) (omega arith) (c .pre .reduced)
     in
     (below, c .mul-high .ensures .below)

@@ -2,5 +2,5 @@
 use Rattle.tables.proofs.HalvingSteps.{Halving}
 use Rattle.tables.proofs.halving.mle_at.Given as given
 
-abbrev pub Inv-loop-r : given.InvT-loop-r
-Inv-loop-r g l = Halving (g .M·Modular .modulus) (l .entry .table) (l .point) (l .table) (l .r-index) (l .len)
+abbrev pub Inv-loop-i : given.InvT-loop-i
+Inv-loop-i g l = Halving (g .M·Modular .modulus) (l .entry .table) (l .point) (l .table) (l .i) (l .len)

@@ -1,0 +1,3 @@
+pub mod Dice
+pub mod Judge
+pub mod House
