@@ -12,7 +12,8 @@ use Rattle.tables.specs.Multilinear.{eqPoly, bitsOf}
 use Rattle.circuits.specs.Circuit.{Kind, sum, product, Gate, Layer, combine}
 use Rattle.argument.specs.Claims.{Share, Claim, sameKind, wiring, sharedWiring, expected}
 use Rattle.argument.proofs.Gates.{body}
-use Rattle.proving.specs.Phases.{weight, weights, scaled}
+use Rattle.judging.specs.Sums.{shareWeight}
+use Rattle.proving.specs.Phases.{weights, layerWeights, scaled}
 
 module _ {K : Type 0} (N : Numbers K) where
   open Numbers N using (add, mul, nat)
@@ -26,10 +27,6 @@ module _ {K : Type 0} (N : Numbers K) where
       (mul w (mul (mul (eqPoly N (bitsOf N m (g .left)) x) (eqPoly N (bitsOf N m (g .right)) y)) (combine N (g .kind) a b)))
       (gateTerms m gs ws x y a b)
 
-  -- the weights of all gates of a layer
-  abbrev pub layerWeights : Layer → List (Share K) → List K
-  layerWeights l ss = weights N (l .size) ss 0 (length (l .gates))
-
 module _ {K : Type 0} {N : Numbers K} (R : Ring N) where
   open Numbers N using (reduce, add, mul, nat)
 
@@ -38,7 +35,7 @@ module _ {K : Type 0} {N : Numbers K} (R : Ring N) where
 
   terms-none : (size m i : ℕ) (gs : List Gate) (x y : List K) (a b : K) →
       gateTerms N m gs (weights N size [] i (length gs)) x y a b ≡ nat 0
-  unfolding gateTerms weights weight
+  unfolding gateTerms weights shareWeight
   terms-none size m i [] x y a b = refl
   terms-none size m i (g ∷ gs) x y a b = ap₂ add (zero-mul R _) (terms-none size m (i + 1) gs x y a b) ∙ add-zeros
 
@@ -71,7 +68,7 @@ module _ {K : Type 0} {N : Numbers K} (R : Ring N) where
       (mul (s .factor)
       (body R (wiring N sum size m i gs (s .point) x y) (wiring N product size m i gs (s .point) x y) a b))
       (gateTerms N m gs (weights N size ss i (length gs)) x y a b)
-  unfolding gateTerms weights weight wiring
+  unfolding gateTerms weights shareWeight wiring
   terms-share size m i [] s ss x y a b =
       sym (R .reduce-zero) ∙
       solve R (s .factor ∷ a ∷ b ∷ []) (con 0)
@@ -80,7 +77,7 @@ module _ {K : Type 0} {N : Numbers K} (R : Ring N) where
       let p : K = eqPoly N (bitsOf N m (g .left)) x in
       let q : K = eqPoly N (bitsOf N m (g .right)) y in
       let e : K = eqPoly N (bitsOf N size i) (s .point) in
-      let w : K = weight N size ss i in
+      let w : K = shareWeight N size ss i in
       ap (add (mul (add (mul (s .factor) e) w) (mul (mul p q) (combine N (g .kind) a b))))
       (terms-share size m (i + 1) gs s ss x y a b) ∙
       first-gate (g .kind) (s .factor) e w p q (wiring N sum size m (i + 1) gs (s .point) x y)

@@ -10,3 +10,9 @@ pub mod RowSteps
 pub mod Gathering
 pub mod RoundSums
 pub mod RoundSteps
+pub mod Telling
+pub mod TableSteps
+pub mod Starting
+pub mod Whole31
+pub mod FrontSteps
+pub mod WeightLists

@@ -6,14 +6,14 @@ use Prim.Native.Nat.{ℕ, zero, suc, _+_}
 use lib.ListN.{length}
 use Rattle.arithmetic.specs.Numbers.{Numbers}
 use Rattle.arithmetic.proofs.Ring.{Ring, zero-mul, reduce-add, reduce-mul}
-use Rattle.tables.specs.Multilinear.{fixFirst, mle, eqPoly, bitsOf}
+use Rattle.tables.specs.Multilinear.{mle, eqPoly, bitsOf}
 use Rattle.tables.proofs.Linear.{Lin, lin-add-l, lin-add-r, lin-mul-l, lin-mul-r, lin-back}
 use Rattle.tables.proofs.Places.{bits-length}
 use Rattle.circuits.specs.Circuit.{Kind, sum, product, Gate, Layer, combine}
 use Rattle.argument.specs.Claims.{Claim, expected}
 use Rattle.argument.proofs.Gates.{sumPairs, sumPairs-same, sumPairs-add, sumPairs-scale, picked-pair}
-use Rattle.proving.specs.Phases.{gateSum, copySum}
-use Rattle.proving.proofs.GateTerms.{gateTerms, layerWeights, expected-terms}
+use Rattle.proving.specs.Phases.{layerWeights, gateSum, copySum}
+use Rattle.proving.proofs.GateTerms.{gateTerms, expected-terms}
 
 module _ {K : Type 0} {N : Numbers K} (R : Ring N) where
   open Numbers N using (reduce, add, mul, nat)
@@ -50,26 +50,28 @@ module _ {K : Type 0} {N : Numbers K} (R : Ring N) where
       ∙ ap (mul w) (gate-picked m f (lin-back R m v c) (g .kind) p q (bits-length R m (g .left)) (bits-length R m (g .right))))
       (gates-picked m gs ws v c)
 
-  pub phase-c : (l : Layer) (m : ℕ) (k : Claim K) (e v c : List K) → mle N e c ≡ eqPoly N (k .copy) c →
-      sumPairs R m (λ x y. expected N l m k c x y (mle N v (c ++ x)) (mle N v (c ++ y))) ≡
-      copySum N m (l .gates) (layerWeights N l (k .shares)) e v c
-  phase-c l m k e v c same =
-      let E : K = eqPoly N (k .copy) c in
-      let terms : List K → List K → K = λ x y. gateTerms N m (l .gates) (layerWeights N l (k .shares)) x y (mle N v (c ++ x)) (mle N v (c ++ y)) in
-      sumPairs-same R m (λ x y. expected N l m k c x y (mle N v (c ++ x)) (mle N v (c ++ y))) (λ x y. mul E (terms x y))
-      (λ x y. expected-terms R l m k c x y (mle N v (c ++ x)) (mle N v (c ++ y)))
+  gateSum-same : (m : ℕ) (gs : List Gate) (ws v X c d : List K) → ((u : List K) → mle N v (c ++ u) ≡ mle N X (d ++ u)) →
+      gateSum N m gs ws v c ≡ gateSum N m gs ws X d
+  unfolding gateSum
+  gateSum-same m [] ws v X c d e = refl
+  gateSum-same m (g ∷ gs) [] v X c d e = refl
+  gateSum-same m (g ∷ gs) (w ∷ ws) v X c d e =
+      ap₂ add
+      (ap₂ (λ a b. mul w (combine N (g .kind) a b)) (e (bitsOf N m (g .left))) (e (bitsOf N m (g .right))))
+      (gateSum-same m gs ws v X c d e)
+
+  -- Tables e and v for the variables that are left, the first ones being fixed at the beginning of d: at z they are what
+  -- E and the values below are at d.
+  pub phase-c : (l : Layer) (m : ℕ) (k : Claim K) (e v X z d : List K) → mle N e z ≡ eqPoly N (k .copy) d →
+      ((u : List K) → mle N v (z ++ u) ≡ mle N X (d ++ u)) →
+      sumPairs R m (λ x y. expected N l m k d x y (mle N X (d ++ x)) (mle N X (d ++ y))) ≡
+      copySum N m (l .gates) (layerWeights N l (k .shares)) e v z
+  phase-c l m k e v X z d same tables =
+      let E : K = eqPoly N (k .copy) d in
+      let ws : List K = layerWeights N l (k .shares) in
+      let terms : List K → List K → K = λ x y. gateTerms N m (l .gates) ws x y (mle N X (d ++ x)) (mle N X (d ++ y)) in
+      sumPairs-same R m (λ x y. expected N l m k d x y (mle N X (d ++ x)) (mle N X (d ++ y))) (λ x y. mul E (terms x y))
+      (λ x y. expected-terms R l m k d x y (mle N X (d ++ x)) (mle N X (d ++ y)))
       ∙ sumPairs-scale R m E terms
-      ∙ ap₂ mul (sym same) (gates-picked m (l .gates) (layerWeights N l (k .shares)) v c)
-
-  -- ---- the first variable fixed
-  gateSum-fixed : (m : ℕ) (gs : List Gate) (ws v : List K) (r : K) (c : List K) →
-      gateSum N m gs ws v (r ∷ c) ≡ gateSum N m gs ws (fixFirst N r v) c
-  unfolding gateSum mle
-  gateSum-fixed m [] ws v r c = refl
-  gateSum-fixed m (g ∷ gs) [] v r c = refl
-  gateSum-fixed m (g ∷ gs) (w ∷ ws) v r c = ap (add _) (gateSum-fixed m gs ws v r c)
-
-  pub copySum-fixed : (m : ℕ) (gs : List Gate) (ws e v : List K) (r : K) (c : List K) →
-      copySum N m gs ws e v (r ∷ c) ≡ copySum N m gs ws (fixFirst N r e) (fixFirst N r v) c
-  unfolding mle
-  copySum-fixed m gs ws e v r c = ap (mul (mle N (fixFirst N r e) c)) (gateSum-fixed m gs ws v r c)
+      ∙ ap₂ mul (sym same)
+      (gates-picked m (l .gates) ws X d ∙ sym (gateSum-same m (l .gates) ws v X z d tables))

@@ -14,8 +14,8 @@ use Rattle.tables.proofs.Places.{bits-length, placed}
 use Rattle.circuits.specs.Circuit.{Kind, sum, product, Gate, Layer, combine}
 use Rattle.argument.specs.Claims.{Claim, expected}
 use Rattle.argument.proofs.Copies.{Reads}
-use Rattle.proving.specs.Phases.{scaled, productSum, addAt, toProduct, toRest, gatherH, gatherJ}
-use Rattle.proving.proofs.GateTerms.{gateTerms, layerWeights, expected-terms, terms-scaled, add-zeros}
+use Rattle.proving.specs.Phases.{layerWeights, scaled, productSum, addAt, toProduct, toRest, gatherH, gatherJ}
+use Rattle.proving.proofs.GateTerms.{gateTerms, expected-terms, terms-scaled, add-zeros}
 use Rattle.proving.proofs.Places.{mle-added, mle-zeros}
 
 module _ {K : Type 0} (N : Numbers K) where

@@ -11,8 +11,8 @@ use Rattle.tables.specs.Multilinear.{mle, eqPoly, bitsOf}
 use Rattle.circuits.specs.Circuit.{Kind, sum, product, Gate, Layer, combine}
 use Rattle.argument.specs.Claims.{Claim, expected}
 use Rattle.argument.proofs.Copies.{Reads}
-use Rattle.proving.specs.Phases.{scaled, productSum, addAt, toProduct, toRest, weightsAt, gatherHy, gatherJy}
-use Rattle.proving.proofs.GateTerms.{gateTerms, layerWeights, expected-terms, terms-scaled}
+use Rattle.proving.specs.Phases.{layerWeights, scaled, productSum, addAt, toProduct, toRest, weightsAt, gatherHy, gatherJy}
+use Rattle.proving.proofs.GateTerms.{gateTerms, expected-terms, terms-scaled}
 use Rattle.proving.proofs.Places.{mle-added}
 use Rattle.proving.proofs.PhaseX.{split-gate, reduce-productSum, zeros-none}
 

@@ -13,7 +13,7 @@ use Rattle.argument.specs.Sumcheck.{Prover, fourValues, respond}
 module _ {K : Type 0} {N : Numbers K} (R : Ring N) where
   open Numbers N using (nat)
 
-  fourValues-same : (g h : K → K) → ((t : K) → g t ≡ h t) → fourValues N g ≡ fourValues N h
+  pub fourValues-same : (g h : K → K) → ((t : K) → g t ≡ h t) → fourValues N g ≡ fourValues N h
   fourValues-same g h e = rw (e (nat 0), e (nat 1), e (nat 2), e (nat 3)) refl
 
   pub respond-same : (n : ℕ) (G H : List K → K) (next later : List K → Prover K) → ((z : List K) → length z ≡ n → G z ≡ H z) →

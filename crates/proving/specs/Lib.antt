@@ -2,3 +2,4 @@ pub mod Phases
 pub mod Rows
 pub mod Rounds
 pub mod Fours
+pub mod Standing

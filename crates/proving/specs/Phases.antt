@@ -2,24 +2,24 @@
 -- pass over the gates. First the copies' variables; then x; then y, x being fixed.
 use mathlib.Core.List.{List, [], _∷_, _++_, map}
 use Prim.Native.Nat.{ℕ, zero, suc, _+_}
-use lib.ListN.{getD, set}
+use lib.ListN.{length, getD, set}
 use Rattle.arithmetic.specs.Numbers.{Numbers}
-use Rattle.tables.specs.Multilinear.{mle, eqPoly, bitsOf}
-use Rattle.circuits.specs.Circuit.{Kind, sum, product, Gate, combine}
+use Rattle.tables.specs.Multilinear.{mle, bitsOf}
+use Rattle.circuits.specs.Circuit.{Kind, sum, product, Gate, Layer, combine}
 use Rattle.argument.specs.Claims.{Share}
+use Rattle.judging.specs.Sums.{shareWeight}
 
 module _ {K : Type 0} (N : Numbers K) where
   open Numbers N using (add, mul, nat)
 
-  -- the weight of the gate at place i: the sum, over shares, of factor times eq at the gate's corner
-  unfoldable pub weight : ℕ → List (Share K) → ℕ → K
-  weight size [] i = nat 0
-  weight size (s ∷ ss) i = add (mul (s .factor) (eqPoly N (bitsOf N size i) (s .point))) (weight size ss i)
-
   -- the weights of n gates from place i on
   unfoldable pub weights : ℕ → List (Share K) → ℕ → ℕ → List K
   weights size ss i zero = []
-  weights size ss i (suc n) = weight size ss i ∷ weights size ss (i + 1) n
+  weights size ss i (suc n) = shareWeight N size ss i ∷ weights size ss (i + 1) n
+
+  -- those of all gates of a layer
+  abbrev pub layerWeights : Layer → List (Share K) → List K
+  layerWeights l ss = weights (l .size) ss 0 (length (l .gates))
 
   -- all weights times a factor
   abbrev pub scaled : K → List K → List K

@@ -4,3 +4,5 @@ pub mod copies;
 pub mod fours;
 pub mod gather;
 pub mod rounds;
+pub mod fronts;
+pub mod parts;
