@@ -16,3 +16,4 @@ pub mod Starting
 pub mod Whole31
 pub mod FrontSteps
 pub mod WeightLists
+pub mod StartsRead

@@ -51,3 +51,9 @@ pub record RightTables (p : ℕ) (l : Layer) (m : ℕ) (k : Claim ℕ) (X c x y 
   pub tables : ProductTables p (λ z. mle (modulo p) X (c ++ (y ++ z))) (λ z. termOf p l m k X c x (y ++ z)) n v h j
   pub value : a ≡ mle (modulo p) X (c ++ x)
   pub value-below : a < p
+
+-- the quarters, each with room for a layer's values in all copies
+pub record Rooms (v w h : List ℕ) : Type 0 where
+  pub room-v : length v ≡ 65536
+  pub room-w : length w ≡ 65536
+  pub room-h : length h ≡ 65536

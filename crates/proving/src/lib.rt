@@ -6,3 +6,4 @@ pub mod gather;
 pub mod rounds;
 pub mod fronts;
 pub mod parts;
+pub mod starts;
