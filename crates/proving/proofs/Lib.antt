@@ -17,3 +17,4 @@ pub mod Whole31
 pub mod FrontSteps
 pub mod WeightLists
 pub mod StartsRead
+pub mod TurnSteps

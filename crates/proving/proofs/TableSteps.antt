@@ -13,7 +13,7 @@ use Rattle.circuits.specs.Circuit.{Layer}
 use Rattle.argument.specs.Claims.{Claim}
 use Rattle.argument.specs.Sumcheck.{Prover, fourValues, respond}
 use Rattle.proving.specs.Phases.{copySum, productSum}
-use Rattle.proving.specs.Standing.{termOf, CopyTables, ProductTables, LeftTables, RightTables}
+use Rattle.proving.specs.Standing.{termOf, CopyTables, ProductTables, LeftTables, RightTables, Fixed}
 use Rattle.proving.proofs.PhaseC.{phase-c}
 use Rattle.proving.proofs.Respond.{fourValues-same}
 
@@ -72,11 +72,6 @@ products-said p several F G n v h j tables next =
     let P : List ℕ → ℕ = productSum N (take (2 ^ suc n) v) (take (2 ^ suc n) h) (take (2 ^ suc n) j) in
     fourValues-same R (λ t. sumCorners N n (λ z. P (t ∷ z))) (λ t. sumCorners N n (λ z. G (t ∷ z)))
     (λ t. sumCorners-eq R n (λ z. P (t ∷ z)) (λ z. G (t ∷ z)) (λ z long. tables .total (t ∷ z) (ap suc long)))
-
--- a table after a coin: half as many numbers are left, the first variable being fixed
-pub record Fixed (p n r : ℕ) (old new : List ℕ) : Type 0 where
-  pub front : take (2 ^ n) new ≡ fixFirst (modulo p) r (take (2 ^ suc n) old)
-  pub reduced : T (allReduced (modulo p) (take (2 ^ n) new))
 
 products-heard : (p : ℕ) (F G F′ G′ : List ℕ → ℕ) (n : ℕ) (v h j : List ℕ) → ProductTables p F G (suc n) v h j →
     (r : ℕ) (v′ h′ j′ : List ℕ) → Fixed p n r v v′ → Fixed p n r h h′ → Fixed p n r j j′ →

@@ -2,11 +2,11 @@
 -- Each table holds, at the front of lent words, what is left when the first variables are the coins so far.
 use mathlib.Core.Path.{_≡_}
 use mathlib.Core.List.{List, _++_}
-use Prim.Native.Nat.{ℕ, _*_, _^_, _<_}
+use Prim.Native.Nat.{ℕ, suc, _*_, _^_, _<_}
 use lib.Dec.{T}
 use lib.ListN.{length, take}
 use Rattle.arithmetic.specs.Numbers.{modulo, allReduced}
-use Rattle.tables.specs.Multilinear.{mle, eqPoly, sumCorners}
+use Rattle.tables.specs.Multilinear.{fixFirst, mle, eqPoly, sumCorners}
 use Rattle.circuits.specs.Circuit.{Layer}
 use Rattle.argument.specs.Claims.{Share, Claim, expected}
 use Rattle.proving.specs.Phases.{layerWeights, productSum}
@@ -57,3 +57,14 @@ pub record Rooms (v w h : List ℕ) : Type 0 where
   pub room-v : length v ≡ 65536
   pub room-w : length w ≡ 65536
   pub room-h : length h ≡ 65536
+
+-- a table after a coin: n variables are left, the first of those before being fixed at r
+pub record Fixed (p n r : ℕ) (old new : List ℕ) : Type 0 where
+  pub front : take (2 ^ n) new ≡ fixFirst (modulo p) r (take (2 ^ suc n) old)
+  pub reduced : T (allReduced (modulo p) (take (2 ^ n) new))
+
+-- the fronts of n variables, reduced
+pub record Fronts (p n : ℕ) (v h j : List ℕ) : Type 0 where
+  pub front-v : T (allReduced (modulo p) (take (2 ^ n) v))
+  pub front-h : T (allReduced (modulo p) (take (2 ^ n) h))
+  pub front-j : T (allReduced (modulo p) (take (2 ^ n) j))

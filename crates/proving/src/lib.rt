@@ -7,3 +7,4 @@ pub mod rounds;
 pub mod fronts;
 pub mod parts;
 pub mod starts;
+pub mod turns;
