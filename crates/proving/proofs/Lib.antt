@@ -18,3 +18,5 @@ pub mod FrontSteps
 pub mod WeightLists
 pub mod StartsRead
 pub mod TurnSteps
+pub mod PartSteps
+pub mod ProverSteps

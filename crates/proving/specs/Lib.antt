@@ -3,3 +3,4 @@ pub mod Rows
 pub mod Rounds
 pub mod Fours
 pub mod Standing
+pub mod Provers
