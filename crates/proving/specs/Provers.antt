@@ -109,3 +109,35 @@ pushed coin t =
       factor = t .factor;
       «at_x» = t .«at_x»;
     }
+
+-- with the factor of the part of x
+abbrev pub withFactor : ℕ → HonestProver → HonestProver
+withFactor factor t =
+    record {
+      layer = t .layer;
+      rest = t .rest;
+      inputs = t .inputs;
+      copy = t .copy;
+      first = t .first;
+      second = t .second;
+      point = t .point;
+      drawn = t .drawn;
+      factor = factor;
+      «at_x» = t .«at_x»;
+    }
+
+-- with the value at x
+abbrev pub withValue : ℕ → HonestProver → HonestProver
+withValue value t =
+    record {
+      layer = t .layer;
+      rest = t .rest;
+      inputs = t .inputs;
+      copy = t .copy;
+      first = t .first;
+      second = t .second;
+      point = t .point;
+      drawn = t .drawn;
+      factor = t .factor;
+      «at_x» = value;
+    }

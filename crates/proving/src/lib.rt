@@ -4,6 +4,7 @@ pub mod copies;
 pub mod fours;
 pub mod gather;
 pub mod rounds;
+pub mod settling;
 pub mod shares;
 pub mod fronts;
 pub mod parts;
