@@ -20,3 +20,4 @@ pub mod StartsRead
 pub mod TurnSteps
 pub mod PartSteps
 pub mod ProverSteps
+pub mod ProverSays

@@ -4,3 +4,4 @@ pub mod Rounds
 pub mod Fours
 pub mod Standing
 pub mod Provers
+pub mod Answers

@@ -1,10 +1,11 @@
 -- Where the honest prover stands: what its tables hold at its coins, what it says from here on, and how much is left of it.
 -- i and q are 1 while the tables of x, or of y, are not made yet at the coin at which their part begins.
 use mathlib.Core.Path.{_≡_}
+use mathlib.Core.Bool.{cond}
 use mathlib.Core.List.{List, [], _∷_, _++_}
 use Prim.Native.Nat.{ℕ, _+_, _-_, _*_, _^_, _<_, _≤_}
 use denote.Ref.{now}
-use lib.Dec.{T}
+use lib.Dec.{T, ltb}
 use lib.ListN.{length, take, drop, set}
 use Rattle.std.specs.declared.option.Option.{Option}
 use Rattle.std.specs.declared.option.Option.the-variants.{Some, None}
@@ -141,3 +142,19 @@ withValue value t =
       factor = t .factor;
       «at_x» = value;
     }
+
+-- how many numbers the next answer has
+abbrev pub answerLength : HonestProver → ℕ
+answerLength t = cond (ltb (t .drawn) (variablesOf t)) 4 2
+
+-- a prover that goes on as another does
+pub record Alike (t r : HonestProver) : Type 0 where
+  pub says : (later : List ℕ) → speaks r later ≡ speaks t later
+  pub coins : coinsLeft r ≡ coinsLeft t
+  pub words : wordsLeft r ≡ wordsLeft t
+
+-- a prover that goes on as another does after a coin
+pub record Heard (coin : ℕ) (t r : HonestProver) : Type 0 where
+  pub says : (later : List ℕ) → speaks r later ≡ speaks t (coin ∷ later)
+  pub coins : coinsLeft t ≡ coinsLeft r + 1
+  pub words : wordsLeft t ≡ answerLength t + wordsLeft r

@@ -3,7 +3,9 @@
 pub mod copies;
 pub mod fours;
 pub mod gather;
+pub mod answer;
 pub mod rounds;
+pub mod saying;
 pub mod settling;
 pub mod shares;
 pub mod fronts;
