@@ -21,3 +21,5 @@ pub mod TurnSteps
 pub mod PartSteps
 pub mod ProverSteps
 pub mod ProverSays
+pub mod ProverHears
+pub mod LayerBelow

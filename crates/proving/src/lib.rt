@@ -4,6 +4,7 @@ pub mod copies;
 pub mod fours;
 pub mod gather;
 pub mod answer;
+pub mod hearing;
 pub mod rounds;
 pub mod saying;
 pub mod settling;
