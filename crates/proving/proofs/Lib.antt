@@ -23,3 +23,4 @@ pub mod ProverSteps
 pub mod ProverSays
 pub mod ProverHears
 pub mod LayerBelow
+pub mod SpeakSteps

@@ -6,6 +6,7 @@ pub mod gather;
 pub mod answer;
 pub mod hearing;
 pub mod rounds;
+pub mod speaking;
 pub mod saying;
 pub mod settling;
 pub mod shares;
