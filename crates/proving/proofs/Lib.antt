@@ -24,3 +24,4 @@ pub mod ProverSays
 pub mod ProverHears
 pub mod LayerBelow
 pub mod SpeakSteps
+pub mod OpeningSteps

@@ -10,15 +10,15 @@ use lib.ListN.{length, take, drop, set}
 use Rattle.std.specs.declared.option.Option.{Option}
 use Rattle.std.specs.declared.option.Option.the-variants.{Some, None}
 use Rattle.arithmetic.specs.Numbers.{modulo, allReduced}
-use Rattle.circuits.specs.Circuit.{Layer, sizeBelow, allValues}
+use Rattle.circuits.specs.Circuit.{Layer, Circuit, sizeBelow, allValues}
 use Rattle.circuits.specs.Values.{EachBelow}
 use Rattle.circuits.specs.Views.{layerSeen, layersSeen, copiesAbove, inputsBelow, sizeSeen, placesBelow}
 use Rattle.circuits.specs.Words.{modulus}
 use Rattle.argument.specs.Claims.{Claim}
 use Rattle.argument.specs.Sumcheck.{Prover}
-use Rattle.argument.specs.Argument.{layerCoins}
-use Rattle.argument.specs.Honest.{honestFrom}
-use Rattle.argument.specs.Transcript.{layerWords}
+use Rattle.argument.specs.Argument.{firstCoins, layerCoins}
+use Rattle.argument.specs.Honest.{honestFrom, honest}
+use Rattle.argument.specs.Transcript.{layerWords, answerWords}
 use Rattle.judging.specs.Meaning.{sharesMeant}
 use Rattle.judging.specs.declared.claim.Share.{Share}
 use Rattle.proving.specs.Standing.{claimOn, Rooms, CopyTables, LeftTables, RightTables}
@@ -158,3 +158,11 @@ pub record Heard (coin : ℕ) (t r : HonestProver) : Type 0 where
   pub says : (later : List ℕ) → speaks r later ≡ speaks t (coin ∷ later)
   pub coins : coinsLeft t ≡ coinsLeft r + 1
   pub words : wordsLeft t ≡ answerLength t + wordsLeft r
+
+-- a prover at the outputs' layer, after the first of these coins
+pub record Opened (c : Circuit) (vs coins : List ℕ) (r : HonestProver) : Type 0 where
+  pub sound : Sound r
+  pub none : r .drawn ≡ 0
+  pub says : (later : List ℕ) → speaks r later ≡ honest (modulo modulus) c vs (take (firstCoins c) coins ++ later)
+  pub coins-are : coinsLeft r ≡ layerCoins (c .copies) (c .layers) (c .inputs)
+  pub words-are : wordsLeft r ≡ answerWords c

@@ -11,6 +11,7 @@ pub mod saying;
 pub mod settling;
 pub mod shares;
 pub mod fronts;
+pub mod opening;
 pub mod parts;
 pub mod prover;
 pub mod coins;
