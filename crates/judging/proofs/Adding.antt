@@ -7,17 +7,24 @@ use Prim.Native.Nat.{ℕ, zero, suc, _+_, _*_, _%_, _^_, _<_, _≤_}
 use native.Mathlib.Nat.{mod-lt, mod-eq-of-lt, add-zero}
 use native.Mathlib.Omega.{arith}
 use borrow.Author.Count.{below-more}
-use lib.Dec.{T}
+use lib.Dec.{T, ltb, lt→ltb}
 use lib.ListN.{length, drop, getD, set, length-set}
 use lib.Pow.{pow-mono}
 use lib.Seq.{getD-set-same, getD-set-other}
 use Rattle.std.proofs.shelf.Lists.{append-nil, drop-all}
 use Rattle.arithmetic.specs.Numbers.{modulo, allReduced}
-use Rattle.arithmetic.proofs.Newton.{reduced-at}
+use Rattle.arithmetic.proofs.Truth.{and-both}
 use Rattle.tables.specs.Multilinear.{eqPoly, bitsOf}
-use Rattle.tables.proofs.ReducedLists.{reduced-from}
 use Rattle.argument.specs.Claims.{Share}
 use Rattle.judging.specs.Sums.{shareWeight}
+
+-- numbers are reduced if each of them is
+reduced-from : (p : ℕ) (xs : List ℕ) → ((i : ℕ) → i < length xs → getD xs i 0 < p) → T (allReduced (modulo p) xs)
+unfolding allReduced
+reduced-from p [] h = tt
+reduced-from p (x ∷ xs) h =
+    and-both (ltb x p) (allReduced (modulo p) xs) (lt→ltb x p (h 0 (omega arith)))
+    (reduced-from p xs (λ i l. h (suc i) (omega arith)))
 
 -- the first i places of xs and ys are added
 pub record Added (p : ℕ) (xs ys : List ℕ) (i : ℕ) (table : List ℕ) : Type 0 where

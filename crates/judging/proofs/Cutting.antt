@@ -5,8 +5,9 @@ use mathlib.Core.Bool.{Bool, true, false}
 use mathlib.Core.List.{List, [], _∷_, _++_}
 use Prim.Native.Nat.{ℕ, zero, suc, _+_, _-_, _<_, _≤_}
 use native.Mathlib.Omega.{arith}
-use lib.Dec.{T}
-use lib.ListN.{length, take, drop, replicate}
+use lib.Dec.{T, ltb}
+use lib.ListN.{length, take, drop, set, replicate}
+use Rattle.std.proofs.shelf.Tests.{lt-ltb, and-parts, and-from}
 use Rattle.std.proofs.shelf.Lists.{take-at, drop-replicate, length-take-le, length-drop}
 use Rattle.arithmetic.specs.Numbers.{modulo, allReduced}
 use Rattle.arithmetic.proofs.Truth.{path-of-T, T-of-path}
@@ -29,3 +30,12 @@ front-is len from numbers part rest e h =
     take-at part rest len
     (ap length e ∙ length-take-le len (drop from numbers) (let room : len ≤ length (drop from numbers) = omega (arith, length-drop from numbers) in room)) ∙
     e
+
+pub reduced-set : (p : ℕ) (xs : List ℕ) (i x : ℕ) → x < p → allReduced (modulo p) xs ≡ true → allReduced (modulo p) (set xs i x) ≡ true
+unfolding allReduced
+reduced-set p [] i x h e = e
+reduced-set p (y ∷ xs) zero x h e =
+    and-from (ltb x p) (allReduced (modulo p) xs) (lt-ltb x p h) (and-parts (ltb y p) (allReduced (modulo p) xs) e .1)
+reduced-set p (y ∷ xs) (suc i) x h e =
+    let both = and-parts (ltb y p) (allReduced (modulo p) xs) e in
+    and-from (ltb y p) (allReduced (modulo p) (set xs i x)) (both .0) (reduced-set p xs i x h (both .1))

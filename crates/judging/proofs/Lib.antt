@@ -8,3 +8,11 @@ pub mod Gathering
 pub mod Cutting
 pub mod Adding
 pub mod Wires
+pub mod Summing
+pub mod Limits
+pub mod PointParts
+pub mod Reading
+pub mod Driven
+pub mod Walking
+pub mod Measuring
+pub mod Judged

@@ -6,3 +6,6 @@ pub mod Sums
 pub mod Gathered
 pub mod Meaning
 pub mod Shares
+pub mod Answers
+pub mod Driving
+pub mod Checks

@@ -41,9 +41,12 @@ abbrev pub variables : ℕ → ℕ → List Layer → ℕ
 variables copies inputs [] = 0
 variables copies inputs (l ∷ ls) = copies + 2 * sizeBelow ls inputs
 
+abbrev pub variablesOf : {K : Type 0} → Stand K → ℕ
+variablesOf s = variables (s .copies) (s .inputs) (s .layers)
+
 -- whether the answer that is due is that of a variable; else it is the two values
 abbrev pub variableDue : {K : Type 0} → Stand K → Bool
-variableDue s = ltb (length (s .point)) (variables (s .copies) (s .inputs) (s .layers))
+variableDue s = ltb (length (s .point)) (variablesOf s)
 
 -- the size of what lies below the top layer
 abbrev pub sizeUnder : {K : Type 0} → Stand K → ℕ

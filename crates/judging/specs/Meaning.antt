@@ -35,7 +35,7 @@ abbrev pub claimMeant : ℕ → ℕ → Claim → claims.Claim ℕ
 claimMeant copies size k =
     record { copy = take copies (k .copy); shares = sharesMeant size (k .first) (k .second); total = k .total }
 
-unfoldable pub standOf : Verifier → Stand ℕ
+abbrev pub standOf : Verifier → Stand ℕ
 standOf v =
     let copies = copiesAbove (v .layers) in
     let inputs = inputsBelow (v .layers) in

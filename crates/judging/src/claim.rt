@@ -7,6 +7,8 @@ ghost use Rattle.arithmetic.specs.Numbers.{modulo, allReduced};
 ghost use Rattle.circuits.specs.Words.{modulus};
 use crate::cut::MOST_COORDINATES;
 
+pub mod views;
+
 // A factor and a point among the layer's gates.
 #[derive(Clone, Copy)]
 pub struct Share {

@@ -12,6 +12,14 @@ ghost use Rattle.judging.specs.Machine.{variables};
 use crate::claim::Claim;
 use circuits::LayersView;
 
+mod due;
+mod expect;
+mod moves;
+mod read;
+mod settle;
+mod start;
+mod step;
+
 // a layer's sum has at most so many variables
 pub const MOST_VARIABLES: usize = 32;
 
