@@ -25,3 +25,5 @@ pub mod ProverHears
 pub mod LayerBelow
 pub mod SpeakSteps
 pub mod OpeningSteps
+pub mod Splitting
+pub mod Written

@@ -5,3 +5,4 @@ pub mod Fours
 pub mod Standing
 pub mod Provers
 pub mod Answers
+pub mod Proves

@@ -5,6 +5,7 @@ pub mod fours;
 pub mod gather;
 pub mod answer;
 pub mod hearing;
+pub mod proving;
 pub mod rounds;
 pub mod speaking;
 pub mod saying;
