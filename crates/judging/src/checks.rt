@@ -53,7 +53,7 @@ pub fn first_coins(circuit: CircuitView) -> usize
     layers.copies() as usize + layers.top_size() as usize
 }
 
-fn check_lengths(circuit: CircuitView, words: usize, coins: usize) -> Result<(), Refusal>
+pub fn check_lengths(circuit: CircuitView, words: usize, coins: usize) -> Result<(), Refusal>
     ensures { λ r. ⌜ RefusedUnless (lengthsFit (circuitSeen (circuit .entry)) words coins) Refusal.WrongCount r ⌝ }
 {
     let layers = measure(circuit.layers());

@@ -3,17 +3,19 @@
 use mathlib.Core.Path.{_≡_, refl, sym, ap, ap₂, subst, _∙_}
 use mathlib.Core.List.{List, [], _∷_, _++_, map}
 use Prim.Native.Nat.{ℕ, zero, suc, _+_, _*_, _%_, _<_, _≤_}
-use native.Mathlib.Nat.{add-zero, mod-lt, mod-eq-of-lt}
+use native.Mathlib.Nat.{add-zero, mod-lt, mod-eq-of-lt, suc-inj, suc-ne-zero, not-suc-le-zero, le-of-suc-le-suc}
+use native.Mathlib.Omega.{arith}
 use lib.Dec.{T, ltb, lt→ltb}
 use lib.ListN.{length, getD, set, take, drop}
 use Rattle.std.proofs.shelf.Edits.{map-over-more}
-use Rattle.std.proofs.shelf.Lists.{append-nil, drop-more, drop-all, getD-default, set-getD, take-all}
+use Rattle.std.proofs.shelf.Lists.{append-nil, drop-more, drop-all, drop-drop, drop-set-lt, getD-drop, getD-default, set-getD, take-all}
 use Rattle.arithmetic.specs.Numbers.{modulo, allReduced}
 use Rattle.arithmetic.proofs.Newton.{reduced-at}
 use Rattle.arithmetic.proofs.Truth.{and-left, and-right, and-both}
 use Rattle.circuits.specs.Circuit.{Gate}
 use Rattle.circuits.specs.Views.{noGate}
-use Rattle.proving.specs.Phases.{addAt, toProduct, toRest, gatherH, gatherJ, gatherHy, gatherJy}
+use Rattle.circuits.proofs.WorkingOut.{fill-more, fill-all}
+use Rattle.proving.specs.Phases.{addAt, toProduct, toRest, gatherH, gatherJ, weightsAt, gatherHy, gatherJy}
 
 pub reduced-set : (p : ℕ) (xs : List ℕ) (i a : ℕ) → T (allReduced (modulo p) xs) → a < p → T (allReduced (modulo p) (set xs i a))
 unfolding allReduced
@@ -81,22 +83,70 @@ unfolding gatherJ
 gathers-leftJ p v = record { none = λ ws table. refl; one = λ g gs w ws table. refl }
 
 -- for y
-abbrev pub rightH : ℕ → List ℕ → ℕ → List Gate → List ℕ → List ℕ → List ℕ
-rightH p ex a gs ws table = gatherHy (modulo p) gs ws ex a table
+abbrev pub rightH : ℕ → ℕ → List Gate → List ℕ → List ℕ → List ℕ
+rightH p a gs ws table = gatherHy (modulo p) gs ws a table
 
-abbrev pub rightJ : ℕ → List ℕ → ℕ → List Gate → List ℕ → List ℕ → List ℕ
-rightJ p ex a gs ws table = gatherJy (modulo p) gs ws ex a table
+abbrev pub rightJ : ℕ → ℕ → List Gate → List ℕ → List ℕ → List ℕ
+rightJ p a gs ws table = gatherJy (modulo p) gs ws a table
 
-abbrev pub weightAtX : ℕ → List ℕ → Gate → ℕ → ℕ
-weightAtX p ex g w = modulo p .mul w (getD ex (g .left) 0)
-
-pub gathers-rightH : (p : ℕ) (ex : List ℕ) (a : ℕ) → Gathers p (rightH p ex a) (λ g. g .right) (λ g w. toProduct (modulo p) (g .kind) (weightAtX p ex g w) a)
+pub gathers-rightH : (p a : ℕ) → Gathers p (rightH p a) (λ g. g .right) (λ g w. toProduct (modulo p) (g .kind) w a)
 unfolding gatherHy
-gathers-rightH p ex a = record { none = λ ws table. refl; one = λ g gs w ws table. refl }
+gathers-rightH p a = record { none = λ ws table. refl; one = λ g gs w ws table. refl }
 
-pub gathers-rightJ : (p : ℕ) (ex : List ℕ) (a : ℕ) → Gathers p (rightJ p ex a) (λ g. g .right) (λ g w. toRest (modulo p) (g .kind) (weightAtX p ex g w) a)
+pub gathers-rightJ : (p a : ℕ) → Gathers p (rightJ p a) (λ g. g .right) (λ g w. toRest (modulo p) (g .kind) w a)
 unfolding gatherJy
-gathers-rightJ p ex a = record { none = λ ws table. refl; one = λ g gs w ws table. refl }
+gathers-rightJ p a = record { none = λ ws table. refl; one = λ g gs w ws table. refl }
+
+-- ---- weights at x
+pub weightsAt-length : (p : ℕ) (gs : List Gate) (ws ex : List ℕ) → length gs ≡ length ws → length (weightsAt (modulo p) gs ws ex) ≡ length ws
+unfolding weightsAt
+weightsAt-length p [] [] ex e = refl
+weightsAt-length p [] (w ∷ ws) ex e = absurd (suc-ne-zero _ (sym e))
+weightsAt-length p (g ∷ gs) [] ex e = refl
+weightsAt-length p (g ∷ gs) (w ∷ ws) ex e = ap suc (weightsAt-length p gs ws ex (suc-inj e))
+
+weightsAt-at : (p : ℕ) (gs : List Gate) (ws ex : List ℕ) (i : ℕ) → i < length gs → i < length ws →
+    getD (weightsAt (modulo p) gs ws ex) i 0 ≡ modulo p .mul (getD ws i 0) (getD ex (getD gs i noGate .left) 0)
+unfolding weightsAt
+weightsAt-at p [] ws ex i h k = absurd (not-suc-le-zero h)
+weightsAt-at p (g ∷ gs) [] ex i h k = absurd (not-suc-le-zero k)
+weightsAt-at p (g ∷ gs) (w ∷ ws) ex zero h k = refl
+weightsAt-at p (g ∷ gs) (w ∷ ws) ex (suc i) h k = weightsAt-at p gs ws ex i (le-of-suc-le-suc h) (le-of-suc-le-suc k)
+
+-- the first i weights are taken at x, the others are as they were
+pub record Weighed (p : ℕ) (gs : List Gate) (ws ex : List ℕ) (i : ℕ) (table : List ℕ) : Type 0 where
+  pub done : take i table ≡ take i (weightsAt (modulo p) gs ws ex)
+  pub rest : drop i table ≡ drop i ws
+  pub reduced : T (allReduced (modulo p) table)
+
+pub weighed-at : (p : ℕ) (gs : List Gate) (ws ex : List ℕ) (i : ℕ) (table : List ℕ) → Weighed p gs ws ex i table → getD table i 0 ≡ getD ws i 0
+weighed-at p gs ws ex i table w =
+    sym (ap (λ (k : ℕ). getD table k 0) (add-zero i)) ∙ sym (getD-drop i table 0 0) ∙ ap (λ (l : List ℕ). getD l 0 0) (w .rest)
+    ∙ getD-drop i ws 0 0 ∙ ap (λ (k : ℕ). getD ws k 0) (add-zero i)
+
+pub weighed-more : (p : ℕ) → 0 < p → (gs : List Gate) (ws ex : List ℕ) (i : ℕ) (table : List ℕ) → Weighed p gs ws ex i table →
+    length gs ≡ length ws → length table ≡ length ws → i < length ws →
+    (left x : ℕ) → left ≡ getD gs i noGate .left → x ≡ modulo p .mul (getD table i 0) (getD ex left 0) → Weighed p gs ws ex (i + 1) (set table i x)
+weighed-more p positive gs ws ex i table w eg et h left x el ex-is =
+    let many = weightsAt-length p gs ws ex eg in
+    let small : x < p = subst (λ (y : ℕ). y < p) (sym ex-is) (mod-lt (getD table i 0 * getD ex left 0) positive) in
+    let value : x ≡ getD (weightsAt (modulo p) gs ws ex) i 0 =
+    ex-is ∙ ap₂ (λ (a l : ℕ). modulo p .mul a (getD ex l 0)) (weighed-at p gs ws ex i table w) el
+    ∙ sym (weightsAt-at p gs ws ex i (omega arith) h) in
+    record {
+      done = fill-more table (weightsAt (modulo p) gs ws ex) i x (omega arith) (omega arith) (w .done) value;
+      rest = drop-set-lt (i + 1) table i x (omega arith) ∙ one-on (w .rest);
+      reduced = reduced-set p table i x (w .reduced) small;
+    }
+  where
+    one-on : drop i table ≡ drop i ws → drop (i + 1) table ≡ drop (i + 1) ws
+    one-on e = sym (drop-drop 1 i table) ∙ ap (drop 1) e ∙ drop-drop 1 i ws
+
+pub weighed-all : (p : ℕ) (gs : List Gate) (ws ex : List ℕ) (i : ℕ) (table : List ℕ) → Weighed p gs ws ex i table →
+    length gs ≡ length ws → length table ≡ length ws → length ws ≤ i → table ≡ weightsAt (modulo p) gs ws ex
+weighed-all p gs ws ex i table w eg et h =
+    let many = weightsAt-length p gs ws ex eg in
+    fill-all table (weightsAt (modulo p) gs ws ex) i (omega arith) (omega arith) (w .done)
 
 -- ---- scaling
 -- the first i numbers are scaled, the others are as they were

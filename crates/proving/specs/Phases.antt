@@ -1,25 +1,29 @@
 -- What the prover's tables stand for in each phase of a layer: the sums that it answers with, in a form that takes one
 -- pass over the gates. First the copies' variables; then x; then y, x being fixed.
-use mathlib.Core.List.{List, [], _∷_, _++_}
+use mathlib.Core.List.{List, [], _∷_, _++_, map}
 use Prim.Native.Nat.{ℕ, zero, suc, _+_}
-use lib.ListN.{getD, set}
+use lib.ListN.{length, getD, set}
 use Rattle.arithmetic.specs.Numbers.{Numbers}
-use Rattle.tables.specs.Multilinear.{mle, eqPoly, bitsOf}
-use Rattle.circuits.specs.Circuit.{Kind, sum, product, Gate, combine}
+use Rattle.tables.specs.Multilinear.{mle, bitsOf}
+use Rattle.circuits.specs.Circuit.{Kind, sum, product, Gate, Layer, combine}
 use Rattle.argument.specs.Claims.{Share}
+use Rattle.judging.specs.Sums.{shareWeight}
 
 module _ {K : Type 0} (N : Numbers K) where
   open Numbers N using (add, mul, nat)
 
-  -- the weight of the gate at place i: the sum, over shares, of factor times eq at the gate's corner
-  unfoldable pub weight : ℕ → List (Share K) → ℕ → K
-  weight size [] i = nat 0
-  weight size (s ∷ ss) i = add (mul (s .factor) (eqPoly N (bitsOf N size i) (s .point))) (weight size ss i)
-
   -- the weights of n gates from place i on
   unfoldable pub weights : ℕ → List (Share K) → ℕ → ℕ → List K
   weights size ss i zero = []
-  weights size ss i (suc n) = weight size ss i ∷ weights size ss (i + 1) n
+  weights size ss i (suc n) = shareWeight N size ss i ∷ weights size ss (i + 1) n
+
+  -- those of all gates of a layer
+  abbrev pub layerWeights : Layer → List (Share K) → List K
+  layerWeights l ss = weights (l .size) ss 0 (length (l .gates))
+
+  -- all weights times a factor
+  abbrev pub scaled : K → List K → List K
+  scaled factor ws = map (λ w. mul w factor) ws
 
   -- ---- the copies' variables
   -- the sum, over gates, of weight times the gate's value at the copies' point c, where v has the values below
@@ -66,16 +70,20 @@ module _ {K : Type 0} (N : Numbers K) where
   gatherJ (g ∷ gs) (w ∷ ws) v table =
       gatherJ gs ws v (addAt table (g .left) (toRest (g .kind) w (getD v (g .right) (nat 0))))
 
-  -- H and J for y: by the gates' right places, with weights times eq of the left place at x, which ex has for all places;
-  -- the other value is a, the value at x
-  unfoldable pub gatherHy : List Gate → List K → List K → K → List K → List K
-  gatherHy [] ws ex a table = table
-  gatherHy (g ∷ gs) [] ex a table = table
-  gatherHy (g ∷ gs) (w ∷ ws) ex a table =
-      gatherHy gs ws ex a (addAt table (g .right) (toProduct (g .kind) (mul w (getD ex (g .left) (nat 0))) a))
+  -- the gates' weights times eq of the left place at x, which ex has for all places. They take the place of the weights
+  -- before anything is gathered, so that the memory of ex is free for one of the two tables.
+  unfoldable pub weightsAt : List Gate → List K → List K → List K
+  weightsAt [] ws ex = []
+  weightsAt (g ∷ gs) [] ex = []
+  weightsAt (g ∷ gs) (w ∷ ws) ex = mul w (getD ex (g .left) (nat 0)) ∷ weightsAt gs ws ex
 
-  unfoldable pub gatherJy : List Gate → List K → List K → K → List K → List K
-  gatherJy [] ws ex a table = table
-  gatherJy (g ∷ gs) [] ex a table = table
-  gatherJy (g ∷ gs) (w ∷ ws) ex a table =
-      gatherJy gs ws ex a (addAt table (g .right) (toRest (g .kind) (mul w (getD ex (g .left) (nat 0))) a))
+  -- H and J for y: by the gates' right places, with such weights; the other value is a, the value at x
+  unfoldable pub gatherHy : List Gate → List K → K → List K → List K
+  gatherHy [] ws a table = table
+  gatherHy (g ∷ gs) [] a table = table
+  gatherHy (g ∷ gs) (w ∷ ws) a table = gatherHy gs ws a (addAt table (g .right) (toProduct (g .kind) w a))
+
+  unfoldable pub gatherJy : List Gate → List K → K → List K → List K
+  gatherJy [] ws a table = table
+  gatherJy (g ∷ gs) [] a table = table
+  gatherJy (g ∷ gs) (w ∷ ws) a table = gatherJy gs ws a (addAt table (g .right) (toRest (g .kind) w a))

@@ -7,7 +7,7 @@ ghost use lib.Dec.{T};
 ghost use lib.ListN.{length};
 ghost use Rattle.arithmetic.specs.Numbers.{modulo, allReduced};
 ghost use Rattle.circuits.specs.Views.{kindMeant, gatesSeen, sizeSeen, placesBelow};
-ghost use Rattle.proving.specs.Phases.{addAt, toProduct, toRest, gatherH, gatherJ, gatherHy, gatherJy};
+ghost use Rattle.proving.specs.Phases.{addAt, toProduct, toRest, gatherH, gatherJ, weightsAt, gatherHy, gatherJy};
 use arithmetic::modular::Modular;
 use circuits::Kind;
 use circuits::LayerView;
@@ -73,30 +73,40 @@ pub fn gather_left<M: Modular>(
     }
 }
 
-// For y, x being fixed: by the gates' right places, with weights times eq of the left place at x. The other value is that at x.
+// Takes the weights at x: each times eq of the gate's left place at x.
+pub fn weigh_left<M: Modular>(layer: LayerView, weights: &mut [u32], eq_at_x: &[u32])
+    requires gates { ⌜ length (now weights) ≡ 2 ^ sizeSeen layer ⌝ }
+    requires places { ⌜ length (now «eq_at_x») ≡ 2 ^ placesBelow layer ⌝ }
+    requires given { ⌜ T (allReduced (modulo modulus) (now weights)) ⌝ ∗ ⌜ T (allReduced (modulo modulus) (now «eq_at_x»)) ⌝ }
+    ensures weights { λ _. ⌜ now (weights .exit) ≡ weightsAt (modulo modulus) (gatesSeen (layer .entry)) (now (weights .entry)) (now («eq_at_x» .entry)) ⌝ }
+    ensures reduced { λ _. ⌜ T (allReduced (modulo modulus) (now (weights .exit))) ⌝ }
+{
+    for i in 0..weights.len() {
+        let gate = layer.gate(i);
+        weights[i] = M::mul(weights[i], eq_at_x[gate.left]);
+    }
+}
+
+// For y, x being fixed: by the gates' right places, with weights taken at x. The other value is that at x.
 pub fn gather_right<M: Modular>(
     layer: LayerView,
     weights: &[u32],
-    eq_at_x: &[u32],
     value_at_x: u32,
     h: &mut [u32],
     j: &mut [u32],
 )
     requires gates { ⌜ length (now weights) ≡ 2 ^ sizeSeen layer ⌝ }
-    requires places { ⌜ length (now «eq_at_x») ≡ 2 ^ placesBelow layer ⌝ }
     requires room { ⌜ length (now h) ≡ 2 ^ placesBelow layer ⌝ ∗ ⌜ length (now j) ≡ 2 ^ placesBelow layer ⌝ }
-    requires given { ⌜ T (allReduced (modulo modulus) (now weights)) ⌝ ∗ ⌜ T (allReduced (modulo modulus) (now «eq_at_x»)) ⌝ }
-    requires value { ⌜ «value_at_x» < modulus ⌝ }
+    requires given { ⌜ T (allReduced (modulo modulus) (now weights)) ⌝ ∗ ⌜ «value_at_x» < modulus ⌝ }
     requires reduced { ⌜ T (allReduced (modulo modulus) (now h)) ⌝ ∗ ⌜ T (allReduced (modulo modulus) (now j)) ⌝ }
-    ensures h { λ _. ⌜ now (h .exit) ≡ gatherHy (modulo modulus) (gatesSeen (layer .entry)) (now (weights .entry)) (now («eq_at_x» .entry)) «value_at_x» (now (h .entry)) ⌝ }
-    ensures j { λ _. ⌜ now (j .exit) ≡ gatherJy (modulo modulus) (gatesSeen (layer .entry)) (now (weights .entry)) (now («eq_at_x» .entry)) «value_at_x» (now (j .entry)) ⌝ }
+    ensures h { λ _. ⌜ now (h .exit) ≡ gatherHy (modulo modulus) (gatesSeen (layer .entry)) (now (weights .entry)) «value_at_x» (now (h .entry)) ⌝ }
+    ensures j { λ _. ⌜ now (j .exit) ≡ gatherJy (modulo modulus) (gatesSeen (layer .entry)) (now (weights .entry)) «value_at_x» (now (j .entry)) ⌝ }
     ensures h_reduced { λ _. ⌜ T (allReduced (modulo modulus) (now (h .exit))) ⌝ }
     ensures j_reduced { λ _. ⌜ T (allReduced (modulo modulus) (now (j .exit))) ⌝ }
 {
     for i in 0..weights.len() {
         let gate = layer.gate(i);
-        let weight = M::mul(weights[i], eq_at_x[gate.left]);
-        add_gate::<M>(gate.kind, gate.right, weight, value_at_x, h, j);
+        add_gate::<M>(gate.kind, gate.right, weights[i], value_at_x, h, j);
     }
 }
 

@@ -14,15 +14,15 @@ use arithmetic::modular::Modular;
 
 // A function's values at 0, 1, 2 and 3.
 #[derive(Clone, Copy)]
-struct FourNumbers {
-    at0: u32,
-    at1: u32,
-    at2: u32,
-    at3: u32,
+pub struct FourNumbers {
+    pub at0: u32,
+    pub at1: u32,
+    pub at2: u32,
+    pub at3: u32,
 }
 
 // The values of the line through a at 0 and b at 1. Each after b is a step further, which takes no multiplication.
-fn line_values<M: Modular>(a: u32, b: u32) -> FourNumbers
+pub fn line_values<M: Modular>(a: u32, b: u32) -> FourNumbers
     requires { ⌜ a < modulus ⌝ ∗ ⌜ b < modulus ⌝ }
     ensures values { λ r. ⌜ listed r ≡ fourValues (modulo modulus) (λ t. lineAt (modulo modulus) a b t) ⌝ }
     ensures below { λ r. ⌜ AllBelow modulus r ⌝ }

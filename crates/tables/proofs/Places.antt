@@ -36,7 +36,7 @@ module _ {K : Type 0} {N : Numbers K} (R : Ring N) where
   bits-low k l h = ap {B = List K} (λ b. nat (b % 2) ∷ bitsOf N k l) (div-eq-of-lt h)
 
   -- what stands above the lowest k bits is not seen by them
-  bits-above : (k m l : ℕ) → bitsOf N k (m * 2 ^ k + l) ≡ bitsOf N k l
+  pub bits-above : (k m l : ℕ) → bitsOf N k (m * 2 ^ k + l) ≡ bitsOf N k l
   unfolding bitsOf
   bits-above zero m l = refl
   bits-above (suc k) m l = ap {B = List K} (λ p. nat (p / 2 ^ k % 2) ∷ bitsOf N k p) regroup ∙ ap₂ {C = List K} (λ b rest. nat b ∷ rest) bit (bits-above k (m * 2) l)

@@ -1,9 +1,10 @@
 -- Lists of numbers below a modulus: by their places, in parts, joined and computed.
 -- Calls ask for such lists, and writes owe them.
 use mathlib.Core.List.{List, [], _∷_, _++_, map}
-use Prim.Native.Nat.{ℕ, zero, suc, _<_}
+use Prim.Native.Nat.{ℕ, zero, suc, _<_, suc-le-suc}
+use native.Mathlib.Omega.{arith}
 use lib.Dec.{T, ltb, ltb→lt, lt→ltb}
-use lib.ListN.{getD, take, drop}
+use lib.ListN.{length, getD, take, drop}
 use Rattle.arithmetic.specs.Numbers.{modulo, allReduced}
 use Rattle.arithmetic.proofs.Truth.{and-left, and-right, and-both}
 
@@ -14,6 +15,12 @@ module _ (p : ℕ) where
   reduced-anywhere h [] t i = h
   reduced-anywhere h (x ∷ xs) t zero = ltb→lt x p (and-left (ltb x p) (allReduced (modulo p) xs) t)
   reduced-anywhere h (x ∷ xs) t (suc i) = reduced-anywhere h xs (and-right (ltb x p) (allReduced (modulo p) xs) t) i
+
+  pub reduced-from : (xs : List ℕ) → ((i : ℕ) → i < length xs → getD xs i 0 < p) → T (allReduced (modulo p) xs)
+  unfolding allReduced
+  reduced-from [] h = tt
+  reduced-from (x ∷ xs) h =
+      and-both (ltb x p) (allReduced (modulo p) xs) (lt→ltb x p (h 0 (omega arith))) (reduced-from xs (λ i l. h (suc i) (suc-le-suc l)))
 
   pub reduced-append : (xs ys : List ℕ) → T (allReduced (modulo p) xs) → T (allReduced (modulo p) ys) → T (allReduced (modulo p) (xs ++ ys))
   unfolding allReduced

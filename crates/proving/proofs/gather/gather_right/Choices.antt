@@ -6,5 +6,5 @@ use Rattle.proving.proofs.gather.gather_right.Given as given
 abbrev pub Inv-loop-i : given.InvT-loop-i
 Inv-loop-i g l =
     let p = g .M·Modular .modulus in
-    Passed p (rightH p (l .eq-at-x) (l .value-at-x)) (gatesSeen (l .layer)) (l .weights) (l .entry .h) (l .i) (l .h)
-    × Passed p (rightJ p (l .eq-at-x) (l .value-at-x)) (gatesSeen (l .layer)) (l .weights) (l .entry .j) (l .i) (l .j)
+    Passed p (rightH p (l .value-at-x)) (gatesSeen (l .layer)) (l .weights) (l .entry .h) (l .i) (l .h)
+    × Passed p (rightJ p (l .value-at-x)) (gatesSeen (l .layer)) (l .weights) (l .entry .j) (l .i) (l .j)

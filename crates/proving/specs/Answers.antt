@@ -1,0 +1,9 @@
+-- The numbers of an answer.
+use mathlib.Core.List.{List}
+use Prim.Native.Nat.{ℕ}
+use Rattle.proving.specs.declared.answer.Answer.{Answer}
+use Rattle.proving.specs.declared.answer.Answer.the-variants.{Round, Values}
+
+abbrev pub numbersOf : Answer → List ℕ
+numbersOf (Round xs) = xs
+numbersOf (Values xs) = xs
