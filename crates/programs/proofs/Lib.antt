@@ -1,6 +1,7 @@
 mod LowBits
 mod ScanSteps
 mod HeardLines
+mod LastCoin
 mod CoinsLeft
 mod BelievedOnly
 mod RightTalk

@@ -1,5 +1,6 @@
 // All that the programs do, as functions and small machines on values: a line in, a line out.
 // Each main only moves lines.
+pub mod answering;
 pub mod dice;
 pub mod failure;
 pub mod files;
