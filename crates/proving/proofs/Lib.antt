@@ -27,3 +27,4 @@ pub mod SpeakSteps
 pub mod OpeningSteps
 pub mod Splitting
 pub mod Written
+pub mod ProveSteps
