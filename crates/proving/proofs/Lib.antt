@@ -28,3 +28,4 @@ pub mod OpeningSteps
 pub mod Splitting
 pub mod Written
 pub mod ProveSteps
+pub mod Believed

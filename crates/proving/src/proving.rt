@@ -26,10 +26,18 @@ use judging::checks::first_coins;
 
 // so many words are lent to work in: four quarters
 const WORK: usize = 262144;
+
 const HALF: usize = 131072;
+
 const QUARTER: usize = 65536;
 
-fn check_rooms(circuit: CircuitView, inputs: usize, room: usize, coins: usize, work: usize) -> Result<(), Refusal>
+fn check_rooms(
+    circuit: CircuitView,
+    inputs: usize,
+    room: usize,
+    coins: usize,
+    work: usize,
+) -> Result<(), Refusal>
     ensures { λ r. ⌜ RefusedUnless (eqb inputs (2 ^ (circuitSeen (circuit .entry) .copies + circuitSeen (circuit .entry) .inputs)) && (eqb room (answerWords (circuitSeen (circuit .entry))) && (eqb coins (coinsOf (circuitSeen (circuit .entry))) && eqb work (2 ^ 18)))) Refusal.WrongCount r ⌝ }
 {
     if inputs != circuit.input_count() || work != WORK {
@@ -38,7 +46,13 @@ fn check_rooms(circuit: CircuitView, inputs: usize, room: usize, coins: usize, w
     check_lengths(circuit, room, coins)
 }
 
-fn check_all(circuit: &[u32], inputs: &[u32], coins: &[u32], room: usize, work: usize) -> Result<(), Refusal>
+fn check_all(
+    circuit: &[u32],
+    inputs: &[u32],
+    coins: &[u32],
+    room: usize,
+    work: usize,
+) -> Result<(), Refusal>
     ensures { λ r. ⌜ Cases r (λ _. Ready (now (circuit .entry)) (now (inputs .entry)) (now (coins .entry)) room work) (λ e. numberOf e ≡ proveVerdict (now (circuit .entry)) (now (inputs .entry)) (now (coins .entry)) room work) ⌝ }
 {
     check_circuit(circuit)?;
@@ -68,7 +82,13 @@ fn speak<'a>(
 }
 
 // The work is cleared whole, since nothing is known of it once its quarters were lent.
-fn try_prove(circuit: &[u32], inputs: &[u32], coins: &[u32], room: &mut [u32], work: &mut [u32]) -> Result<(), Refusal>
+pub fn try_prove(
+    circuit: &[u32],
+    inputs: &[u32],
+    coins: &[u32],
+    room: &mut [u32],
+    work: &mut [u32],
+) -> Result<(), Refusal>
     ensures { λ r. ⌜ Cases r (λ _. Ready (now (circuit .entry)) (now (inputs .entry)) (now (coins .entry)) (length (now (room .entry))) (length (now (work .entry))) × (Answered (now (circuit .entry)) (now (inputs .entry)) (now (coins .entry)) (now (room .exit)) × (now (work .exit) ≡ replicate (length (now (work .entry))) 0))) (λ e. (numberOf e ≡ proveVerdict (now (circuit .entry)) (now (inputs .entry)) (now (coins .entry)) (length (now (room .entry))) (length (now (work .entry)))) × ((now (room .exit) ≡ now (room .entry)) × (now (work .exit) ≡ now (work .entry)))) ⌝ }
 {
     check_all(circuit, inputs, coins, room.len(), work.len())?;
