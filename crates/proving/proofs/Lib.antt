@@ -27,3 +27,5 @@ pub mod SpeakSteps
 pub mod OpeningSteps
 pub mod Splitting
 pub mod Written
+pub mod ProveSteps
+pub mod Believed

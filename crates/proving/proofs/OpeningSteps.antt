@@ -13,11 +13,10 @@ use Rattle.std.proofs.shelf.Lists.{drop-take, take-take, take-at, drop-at, leng
 use Rattle.std.proofs.shelf.Tests.{and-parts, leb-true}
 use Rattle.std.specs.declared.option.Option.the-variants.{None}
 use Rattle.arithmetic.specs.Numbers.{modulo, allReduced}
-use Rattle.circuits.specs.Circuit.{Layer, Circuit, sizeBelow, outputSize, outputs, lawful}
+use Rattle.circuits.specs.Circuit.{Layer, Circuit, sizeBelow, outputSize, outputs, lawful, layersFit}
 use Rattle.circuits.specs.Values.{EachBelow}
 use Rattle.circuits.specs.Views.{layerSeen, layersSeen, inputsBelow, sizeSeen}
 use Rattle.circuits.specs.Words.{modulus, isCircuit, circuitOf, word, shaped}
-use Rattle.circuits.proofs.Steps.{length-layersOf}
 use Rattle.argument.specs.Claims as claims
 use Rattle.argument.specs.Argument.{firstCoins, layerCoins, firstClaim}
 use Rattle.argument.specs.Honest.{honest, honestFrom}
@@ -29,9 +28,9 @@ use Rattle.proving.specs.declared.prover.HonestProver.{HonestProver}
 use Rattle.proving.proofs.ProverHears.{top-limit}
 use Rattle.proving.proofs.Telling.{any-total}
 
--- a lawful circuit has a layer
-pub circuit-some : (ws : List ℕ) → isCircuit ws ≡ true → 0 < length (circuitOf ws .layers)
-circuit-some ws h =
+-- words of a circuit are those of a lawful one
+pub circuit-lawful : (ws : List ℕ) → isCircuit ws ≡ true → lawful (circuitOf ws) ≡ true
+circuit-lawful ws h =
     let a = leb 3 (length ws) in
     let b = leb (length ws) (2 ^ 19) in
     let c = leb (word ws 0 + word ws 1) 16 in
@@ -43,7 +42,14 @@ circuit-some ws h =
     let q = and-parts b (c && (d && (e && (f && g)))) (p .1) in
     let r = and-parts c (d && (e && (f && g))) (q .1) in
     let s = and-parts d (e && (f && g)) (r .1) in
-    omega (arith, leb-true 1 (word ws 2) (s .0), length-layersOf (word ws 2) (drop 3 ws))
+    let t = and-parts e (f && g) (s .1) in
+    and-parts f g (t .1) .1
+
+-- so it has a layer
+pub circuit-some : (ws : List ℕ) → isCircuit ws ≡ true → 0 < length (circuitOf ws .layers)
+circuit-some ws h =
+    let c = circuitOf ws in
+    leb-true 1 (length (c .layers)) (and-parts (leb 1 (length (c .layers))) (layersFit (c .layers) (c .inputs)) (circuit-lawful ws h) .0)
 
 module _ (c : Circuit) (vs coins : List ℕ) (r : HonestProver) (el : c .layers ≡ layerSeen (r .layer) ∷ layersSeen (r .rest))
     (ec : copiesOf r ≡ c .copies) (ei : inputsBelow (r .rest) ≡ c .inputs) (eg : now (r .inputs) ≡ vs) (en : r .drawn ≡ 0)

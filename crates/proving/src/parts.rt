@@ -117,5 +117,11 @@ pub fn gather_right_front<M: Modular>(
 {
     clear_front(h, places);
     clear_front(j, places);
-    gather_right::<M>(layer, weights, value_at_x, &mut h[0..places], &mut j[0..places]);
+    gather_right::<M>(
+        layer,
+        weights,
+        value_at_x,
+        &mut h[0..places],
+        &mut j[0..places],
+    );
 }

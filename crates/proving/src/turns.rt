@@ -19,7 +19,13 @@ use circuits::LayerView;
 use judging::extension::places;
 
 // The four values for the first of `left` copies' variables.
-pub fn copy_answer<M: Modular>(layer: LayerView, left: u32, v: &[u32], w: &[u32], h: &[u32]) -> [u32; 4]
+pub fn copy_answer<M: Modular>(
+    layer: LayerView,
+    left: u32,
+    v: &[u32],
+    w: &[u32],
+    h: &[u32],
+) -> [u32; 4]
     requires left { ⌜ 0 < left ⌝ ∗ ⌜ left + placesBelow layer ≤ 16 ⌝ }
     requires rooms { ⌜ Rooms (now v) (now w) (now h) ⌝ }
     requires values { ⌜ T (allReduced (modulo modulus) (take (2 ^ left * 2 ^ placesBelow layer) (now v))) ⌝ }
