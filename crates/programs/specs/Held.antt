@@ -27,3 +27,9 @@ pub record Held (cs vs claimed : List ℕ) : Type 0 where
   pub inputs-reduced : allReduced (modulo modulus) vs ≡ true
   pub claimed-whole : length claimed ≡ 2 ^ (circuitOf cs .copies + outputSize (circuitOf cs))
   pub claimed-reduced : allReduced (modulo modulus) claimed ≡ true
+
+-- the same of what `house` is given: circuit and inputs
+pub record Given (cs vs : List ℕ) : Type 0 where
+  pub circuit : isCircuit cs ≡ true
+  pub inputs : length vs ≡ 2 ^ (circuitOf cs .copies + circuitOf cs .inputs)
+  pub inputs-reduced : allReduced (modulo modulus) vs ≡ true

@@ -4,6 +4,7 @@ pub mod answering;
 pub mod dice;
 pub mod failure;
 pub mod files;
+pub mod given;
 pub mod hearing;
 pub mod held;
 pub mod lines;
