@@ -23,7 +23,13 @@ fn changed(number: u32) -> u32 {
 }
 
 // How many of the answers' numbers cannot be changed by one unseen.
-fn seen(circuit: &[u32], inputs: &[u32], claimed: &[u32], answers: &mut [u32], coins: &[u32]) -> u32 {
+fn seen(
+    circuit: &[u32],
+    inputs: &[u32],
+    claimed: &[u32],
+    answers: &mut [u32],
+    coins: &[u32],
+) -> u32 {
     let mut count: u32 = 0;
     for i in 0..answers.len() {
         let number = answers[i];
@@ -61,38 +67,177 @@ fn row(
     let judged = VerifierJudge::judge(circuit, inputs, outputs, answers, coins);
     let count = seen(circuit, inputs, outputs, answers, coins);
     let all = answers.len();
-    println!(rt, "{name}: {ran} {proved} {judged}, work clear {clear}, {count} of {all} seen")
+    println!(
+        rt,
+        "{name}: {ran} {proved} {judged}, work clear {clear}, {count} of {all} seen"
+    )
 }
 
 fn one_layer(rt: &LibcRuntime) -> io::Result<()> {
-    row(rt, "a product", &PRODUCT, &[3, 5], &[2, 4, 3], &mut [7], &mut [7; 10])?;
-    row(rt, "a sum", &SUM, &[3, 5], &[9, 8, 7], &mut [7], &mut [7; 10])?;
-    row(rt, "one place twice", &[0, 1, 1, 0, 1, 1, 1], &[3, 5], &[9, 8, 7], &mut [7], &mut [7; 10])?;
-    row(rt, "no bits of inputs", &[0, 0, 1, 0, 1, 0, 0], &[9], &[5], &mut [7], &mut [7; 2])?;
-    row(rt, "copies alone", &[2, 0, 1, 0, 1, 0, 0], &[1, 2, 3, 4], &[5, 6, 7, 8, 9], &mut [7; 4], &mut [7; 10])?;
-    row(rt, "two copies", &PAIRS, &[2, 3, 10, 20], &[11, 12, 13, 14, 15, 16], &mut [7; 4], &mut [7; 14])
+    row(
+        rt,
+        "a product",
+        &PRODUCT,
+        &[3, 5],
+        &[2, 4, 3],
+        &mut [7],
+        &mut [7; 10],
+    )?;
+    row(
+        rt,
+        "a sum",
+        &SUM,
+        &[3, 5],
+        &[9, 8, 7],
+        &mut [7],
+        &mut [7; 10],
+    )?;
+    row(
+        rt,
+        "one place twice",
+        &[0, 1, 1, 0, 1, 1, 1],
+        &[3, 5],
+        &[9, 8, 7],
+        &mut [7],
+        &mut [7; 10],
+    )?;
+    row(
+        rt,
+        "no bits of inputs",
+        &[0, 0, 1, 0, 1, 0, 0],
+        &[9],
+        &[5],
+        &mut [7],
+        &mut [7; 2],
+    )?;
+    row(
+        rt,
+        "copies alone",
+        &[2, 0, 1, 0, 1, 0, 0],
+        &[1, 2, 3, 4],
+        &[5, 6, 7, 8, 9],
+        &mut [7; 4],
+        &mut [7; 10],
+    )?;
+    row(
+        rt,
+        "two copies",
+        &PAIRS,
+        &[2, 3, 10, 20],
+        &[11, 12, 13, 14, 15, 16],
+        &mut [7; 4],
+        &mut [7; 14],
+    )
 }
 
 fn more_layers(rt: &LibcRuntime) -> io::Result<()> {
     let two = [0, 1, 2, 0, 1, 0, 1, 1, 0, 0, 1, 0, 0, 0];
-    row(rt, "a layer above another", &two, &[3, 4], &[5, 6, 7, 8, 9, 10], &mut [7], &mut [7; 20])?;
+    row(
+        rt,
+        "a layer above another",
+        &two,
+        &[3, 4],
+        &[5, 6, 7, 8, 9, 10],
+        &mut [7],
+        &mut [7; 20],
+    )?;
     let sums = [1, 1, 2, 0, 0, 0, 1, 1, 0, 0, 1, 0, 1, 1];
-    row(rt, "sums in copies", &sums, &[1, 2, 3, 4], &[5, 6, 7, 8, 9, 10, 11, 12, 13], &mut [7; 2], &mut [7; 28])?;
+    row(
+        rt,
+        "sums in copies",
+        &sums,
+        &[1, 2, 3, 4],
+        &[5, 6, 7, 8, 9, 10, 11, 12, 13],
+        &mut [7; 2],
+        &mut [7; 28],
+    )?;
     let products = [1, 1, 2, 0, 1, 0, 1, 1, 1, 0, 1, 1, 1, 1];
-    row(rt, "products in copies", &products, &[1, 2, 3, 4], &[5, 6, 7, 8, 9, 10, 11, 12, 13], &mut [7; 2], &mut [7; 28])?;
+    row(
+        rt,
+        "products in copies",
+        &products,
+        &[1, 2, 3, 4],
+        &[5, 6, 7, 8, 9, 10, 11, 12, 13],
+        &mut [7; 2],
+        &mut [7; 28],
+    )?;
     let mut tower = [0; 131];
     tower[2] = 32;
-    row(rt, "32 layers", &tower, &[5], &[3; 32], &mut [7], &mut [7; 64])
+    row(
+        rt,
+        "32 layers",
+        &tower,
+        &[5],
+        &[3; 32],
+        &mut [7],
+        &mut [7; 64],
+    )
 }
 
 fn other_coins(rt: &LibcRuntime) -> io::Result<()> {
-    row(rt, "coins 0", &PAIRS, &[2, 3, 10, 20], &[0; 6], &mut [7; 4], &mut [7; 14])?;
-    row(rt, "coins 1", &PAIRS, &[2, 3, 10, 20], &[1; 6], &mut [7; 4], &mut [7; 14])?;
-    row(rt, "coins p - 1", &PAIRS, &[2, 3, 10, 20], &[MODULUS - 1; 6], &mut [7; 4], &mut [7; 14])?;
-    row(rt, "the modulus as a coin", &PRODUCT, &[3, 5], &[2, MODULUS, 3], &mut [7], &mut [7; 10])?;
-    row(rt, "a coin too few", &PRODUCT, &[3, 5], &[2, 4], &mut [7], &mut [7; 10])?;
-    row(rt, "room for too few", &PRODUCT, &[3, 5], &[2, 4, 3], &mut [7], &mut [7; 9])?;
-    row(rt, "no circuit", &[0, 1, 1, 0, 1, 0, 2], &[3, 5], &[2, 4, 3], &mut [7], &mut [7; 10])
+    row(
+        rt,
+        "coins 0",
+        &PAIRS,
+        &[2, 3, 10, 20],
+        &[0; 6],
+        &mut [7; 4],
+        &mut [7; 14],
+    )?;
+    row(
+        rt,
+        "coins 1",
+        &PAIRS,
+        &[2, 3, 10, 20],
+        &[1; 6],
+        &mut [7; 4],
+        &mut [7; 14],
+    )?;
+    row(
+        rt,
+        "coins p - 1",
+        &PAIRS,
+        &[2, 3, 10, 20],
+        &[MODULUS - 1; 6],
+        &mut [7; 4],
+        &mut [7; 14],
+    )?;
+    row(
+        rt,
+        "the modulus as a coin",
+        &PRODUCT,
+        &[3, 5],
+        &[2, MODULUS, 3],
+        &mut [7],
+        &mut [7; 10],
+    )?;
+    row(
+        rt,
+        "a coin too few",
+        &PRODUCT,
+        &[3, 5],
+        &[2, 4],
+        &mut [7],
+        &mut [7; 10],
+    )?;
+    row(
+        rt,
+        "room for too few",
+        &PRODUCT,
+        &[3, 5],
+        &[2, 4, 3],
+        &mut [7],
+        &mut [7; 9],
+    )?;
+    row(
+        rt,
+        "no circuit",
+        &[0, 1, 1, 0, 1, 0, 2],
+        &[3, 5],
+        &[2, 4, 3],
+        &mut [7],
+        &mut [7; 10],
+    )
 }
 
 fn main(rt: LibcRuntime) -> io::Result<()> {

@@ -12,7 +12,7 @@ pub returns-then-count-eq0 : need.returns-then-count-eq0
 returns-then-count-eq0 c =
     let t = c .args .prover in
     let same : c .copies .result + 2 * c .size-below .result ≡ variablesOf t =
-      omega (arith, c .copies .ensures .value, c .size-below .ensures .value)
+    omega (arith, c .copies .ensures .value, c .size-below .ensures .value)
     in
     ap (λ (n : ℕ). eqb (t .drawn) n) same
     ∙ last-here (copiesOf t) (inputsBelow (t .rest)) (variablesOf t) (t .drawn) (c .count .result) (layersSeen (t .rest))

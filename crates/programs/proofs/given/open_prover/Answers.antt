@@ -16,7 +16,7 @@ open-requires c κs =
     let coins = c .args .coins .now in
     record {
       inputs =
-        (subst⁻¹ (λ (ws : List ℕ). length vs ≡ 2 ^ (word ws 0 + word ws 1)) (c .new .ensures) (c .pre .given .inputs), reduced-each modulus vs (lit< tt) (c .pre .given .inputs-reduced));
+          (subst⁻¹ (λ (ws : List ℕ). length vs ≡ 2 ^ (word ws 0 + word ws 1)) (c .new .ensures) (c .pre .given .inputs), reduced-each modulus vs (lit< tt) (c .pre .given .inputs-reduced));
       coins =
-        (subst⁻¹ (λ (ws : List ℕ). firstCoins (circuitOf ws) ≤ length coins) (c .new .ensures) (le-of-eq (sym (c .pre .coins .0))), c .pre .coins .1);
+          (subst⁻¹ (λ (ws : List ℕ). firstCoins (circuitOf ws) ≤ length coins) (c .new .ensures) (le-of-eq (sym (c .pre .coins .0))), c .pre .coins .1);
     }
