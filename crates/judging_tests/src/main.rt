@@ -292,6 +292,38 @@ fn refused(rt: &LibcRuntime) -> io::Result<()> {
     )
 }
 
+// Two refusals at once, the one that counts in an earlier argument and in a later one.
+fn refused_twice(rt: &LibcRuntime) -> io::Result<()> {
+    let answers = &PRODUCT_ANSWERS;
+    row(
+        rt,
+        "an input too large and too few coins",
+        &PRODUCT,
+        &[MODULUS, 5],
+        &[15],
+        answers,
+        &[2, 4],
+    )?;
+    row(
+        rt,
+        "too few inputs and a coin too large",
+        &PRODUCT,
+        &[3],
+        &[15],
+        answers,
+        &[2, 4, MODULUS],
+    )?;
+    row(
+        rt,
+        "an input too large and a wrong output",
+        &PRODUCT,
+        &[MODULUS, 5],
+        &[16],
+        answers,
+        &PRODUCT_COINS,
+    )
+}
+
 // The number 0 as 2^31 - 1, which is another word for it.
 fn unreduced(rt: &LibcRuntime) -> io::Result<()> {
     let mut answers = PRODUCT_ANSWERS;
@@ -312,5 +344,6 @@ fn main(rt: LibcRuntime) -> io::Result<()> {
     layered(&rt)?;
     at_the_inputs(&rt)?;
     refused(&rt)?;
-    unreduced(&rt)
+    unreduced(&rt)?;
+    refused_twice(&rt)
 }
