@@ -1,5 +1,5 @@
 // A table of circuits and coins: what `prove` writes is judged, as it is and with each of its numbers changed by one.
-// Where a coin is 0 or 1, a value at 2 or 3 that was changed is not seen, since the polynomial is not looked at there.
+// A coin that is itself 0, 1, 2 or 3 looks at the value there alone, so that a change at 2 or 3 may not be seen.
 use judging::judge::Judge;
 use judging::judge::VerifierJudge;
 use judging::judge::VerifierJudgeJudge;
@@ -23,7 +23,13 @@ fn changed(number: u32) -> u32 {
 }
 
 // How many of the answers' numbers cannot be changed by one unseen.
-fn seen(circuit: &[u32], inputs: &[u32], claimed: &[u32], answers: &mut [u32], coins: &[u32]) -> u32 {
+fn seen(
+    circuit: &[u32],
+    inputs: &[u32],
+    claimed: &[u32],
+    answers: &mut [u32],
+    coins: &[u32],
+) -> u32 {
     let mut count: u32 = 0;
     for i in 0..answers.len() {
         let number = answers[i];
@@ -45,6 +51,49 @@ fn noughts(words: &[u32]) -> bool {
     true
 }
 
+// The three calls' answers, whether the work is clear then, and how many changed numbers are seen.
+#[derive(Clone, Copy)]
+struct Outcome {
+    ran: u32,
+    proved: u32,
+    judged: u32,
+    clear: bool,
+    seen: u32,
+}
+
+fn try_out(
+    circuit: &[u32],
+    inputs: &[u32],
+    coins: &[u32],
+    outputs: &mut [u32],
+    answers: &mut [u32],
+) -> Outcome {
+    let mut work = [7; 262144];
+    let ran = HonestHouse::run(circuit, inputs, outputs);
+    let proved = HonestHouse::prove(circuit, inputs, coins, answers, &mut work);
+    Outcome {
+        ran,
+        proved,
+        judged: VerifierJudge::judge(circuit, inputs, outputs, answers, coins),
+        clear: noughts(&work),
+        seen: seen(circuit, inputs, outputs, answers, coins),
+    }
+}
+
+fn show(rt: &LibcRuntime, name: &str, found: Outcome, all: usize) -> io::Result<()> {
+    let Outcome {
+        ran,
+        proved,
+        judged,
+        clear,
+        seen,
+    } = found;
+    println!(
+        rt,
+        "{name}: {ran} {proved} {judged}, work clear {clear}, {seen} of {all} seen"
+    )
+}
+
 fn row(
     rt: &LibcRuntime,
     name: &str,
@@ -54,45 +103,175 @@ fn row(
     outputs: &mut [u32],
     answers: &mut [u32],
 ) -> io::Result<()> {
-    let mut work = [7; 262144];
-    let ran = HonestHouse::run(circuit, inputs, outputs);
-    let proved = HonestHouse::prove(circuit, inputs, coins, answers, &mut work);
-    let clear = noughts(&work);
-    let judged = VerifierJudge::judge(circuit, inputs, outputs, answers, coins);
-    let count = seen(circuit, inputs, outputs, answers, coins);
-    let all = answers.len();
-    println!(rt, "{name}: {ran} {proved} {judged}, work clear {clear}, {count} of {all} seen")
+    let found = try_out(circuit, inputs, coins, outputs, answers);
+    show(rt, name, found, answers.len())
 }
 
 fn one_layer(rt: &LibcRuntime) -> io::Result<()> {
-    row(rt, "a product", &PRODUCT, &[3, 5], &[2, 4, 3], &mut [7], &mut [7; 10])?;
-    row(rt, "a sum", &SUM, &[3, 5], &[9, 8, 7], &mut [7], &mut [7; 10])?;
-    row(rt, "one place twice", &[0, 1, 1, 0, 1, 1, 1], &[3, 5], &[9, 8, 7], &mut [7], &mut [7; 10])?;
-    row(rt, "no bits of inputs", &[0, 0, 1, 0, 1, 0, 0], &[9], &[5], &mut [7], &mut [7; 2])?;
-    row(rt, "copies alone", &[2, 0, 1, 0, 1, 0, 0], &[1, 2, 3, 4], &[5, 6, 7, 8, 9], &mut [7; 4], &mut [7; 10])?;
-    row(rt, "two copies", &PAIRS, &[2, 3, 10, 20], &[11, 12, 13, 14, 15, 16], &mut [7; 4], &mut [7; 14])
+    row(
+        rt,
+        "a product",
+        &PRODUCT,
+        &[3, 5],
+        &[2, 4, 3],
+        &mut [7],
+        &mut [7; 10],
+    )?;
+    row(
+        rt,
+        "a sum",
+        &SUM,
+        &[3, 5],
+        &[9, 8, 7],
+        &mut [7],
+        &mut [7; 10],
+    )?;
+    row(
+        rt,
+        "one place twice",
+        &[0, 1, 1, 0, 1, 1, 1],
+        &[3, 5],
+        &[9, 8, 7],
+        &mut [7],
+        &mut [7; 10],
+    )?;
+    row(
+        rt,
+        "no bits of inputs",
+        &[0, 0, 1, 0, 1, 0, 0],
+        &[9],
+        &[5],
+        &mut [7],
+        &mut [7; 2],
+    )?;
+    row(
+        rt,
+        "copies alone",
+        &[2, 0, 1, 0, 1, 0, 0],
+        &[1, 2, 3, 4],
+        &[5, 6, 7, 8, 9],
+        &mut [7; 4],
+        &mut [7; 10],
+    )?;
+    row(
+        rt,
+        "two copies",
+        &PAIRS,
+        &[2, 3, 10, 20],
+        &[11, 12, 13, 14, 15, 16],
+        &mut [7; 4],
+        &mut [7; 14],
+    )
 }
 
 fn more_layers(rt: &LibcRuntime) -> io::Result<()> {
     let two = [0, 1, 2, 0, 1, 0, 1, 1, 0, 0, 1, 0, 0, 0];
-    row(rt, "a layer above another", &two, &[3, 4], &[5, 6, 7, 8, 9, 10], &mut [7], &mut [7; 20])?;
+    row(
+        rt,
+        "a layer above another",
+        &two,
+        &[3, 4],
+        &[5, 6, 7, 8, 9, 10],
+        &mut [7],
+        &mut [7; 20],
+    )?;
     let sums = [1, 1, 2, 0, 0, 0, 1, 1, 0, 0, 1, 0, 1, 1];
-    row(rt, "sums in copies", &sums, &[1, 2, 3, 4], &[5, 6, 7, 8, 9, 10, 11, 12, 13], &mut [7; 2], &mut [7; 28])?;
+    row(
+        rt,
+        "sums in copies",
+        &sums,
+        &[1, 2, 3, 4],
+        &[5, 6, 7, 8, 9, 10, 11, 12, 13],
+        &mut [7; 2],
+        &mut [7; 28],
+    )?;
     let products = [1, 1, 2, 0, 1, 0, 1, 1, 1, 0, 1, 1, 1, 1];
-    row(rt, "products in copies", &products, &[1, 2, 3, 4], &[5, 6, 7, 8, 9, 10, 11, 12, 13], &mut [7; 2], &mut [7; 28])?;
+    row(
+        rt,
+        "products in copies",
+        &products,
+        &[1, 2, 3, 4],
+        &[5, 6, 7, 8, 9, 10, 11, 12, 13],
+        &mut [7; 2],
+        &mut [7; 28],
+    )?;
     let mut tower = [0; 131];
     tower[2] = 32;
-    row(rt, "32 layers", &tower, &[5], &[3; 32], &mut [7], &mut [7; 64])
+    row(
+        rt,
+        "32 layers",
+        &tower,
+        &[5],
+        &[3; 32],
+        &mut [7],
+        &mut [7; 64],
+    )
 }
 
 fn other_coins(rt: &LibcRuntime) -> io::Result<()> {
-    row(rt, "coins 0", &PAIRS, &[2, 3, 10, 20], &[0; 6], &mut [7; 4], &mut [7; 14])?;
-    row(rt, "coins 1", &PAIRS, &[2, 3, 10, 20], &[1; 6], &mut [7; 4], &mut [7; 14])?;
-    row(rt, "coins p - 1", &PAIRS, &[2, 3, 10, 20], &[MODULUS - 1; 6], &mut [7; 4], &mut [7; 14])?;
-    row(rt, "the modulus as a coin", &PRODUCT, &[3, 5], &[2, MODULUS, 3], &mut [7], &mut [7; 10])?;
-    row(rt, "a coin too few", &PRODUCT, &[3, 5], &[2, 4], &mut [7], &mut [7; 10])?;
-    row(rt, "room for too few", &PRODUCT, &[3, 5], &[2, 4, 3], &mut [7], &mut [7; 9])?;
-    row(rt, "no circuit", &[0, 1, 1, 0, 1, 0, 2], &[3, 5], &[2, 4, 3], &mut [7], &mut [7; 10])
+    row(
+        rt,
+        "coins 0",
+        &PAIRS,
+        &[2, 3, 10, 20],
+        &[0; 6],
+        &mut [7; 4],
+        &mut [7; 14],
+    )?;
+    row(
+        rt,
+        "coins 1",
+        &PAIRS,
+        &[2, 3, 10, 20],
+        &[1; 6],
+        &mut [7; 4],
+        &mut [7; 14],
+    )?;
+    row(
+        rt,
+        "coins p - 1",
+        &PAIRS,
+        &[2, 3, 10, 20],
+        &[MODULUS - 1; 6],
+        &mut [7; 4],
+        &mut [7; 14],
+    )?;
+    row(
+        rt,
+        "the modulus as a coin",
+        &PRODUCT,
+        &[3, 5],
+        &[2, MODULUS, 3],
+        &mut [7],
+        &mut [7; 10],
+    )?;
+    row(
+        rt,
+        "a coin too few",
+        &PRODUCT,
+        &[3, 5],
+        &[2, 4],
+        &mut [7],
+        &mut [7; 10],
+    )?;
+    row(
+        rt,
+        "room for too few",
+        &PRODUCT,
+        &[3, 5],
+        &[2, 4, 3],
+        &mut [7],
+        &mut [7; 9],
+    )?;
+    row(
+        rt,
+        "no circuit",
+        &[0, 1, 1, 0, 1, 0, 2],
+        &[3, 5],
+        &[2, 4, 3],
+        &mut [7],
+        &mut [7; 10],
+    )
 }
 
 fn main(rt: LibcRuntime) -> io::Result<()> {
