@@ -3,7 +3,7 @@
 use mathlib.Core.Path.{_≡_, refl, sym, ap, ap₂, _∙_}
 use mathlib.Core.List.{List, [], _∷_, _++_}
 use Prim.Native.Nat.{ℕ, zero, suc, _+_, _*_, _/_, _%_, _^_, _<_, _≤_}
-use native.Mathlib.Nat.{zero-add, suc-add, add-zero, add-assoc, zero-mul, two-pow-succ, div-div-eq-div-mul, mul-add-div-right, div-eq-of-lt, mul-comm}
+use native.Mathlib.Nat.{zero-add, suc-add, add-zero, add-assoc, two-pow-succ, div-div-eq-div-mul, mul-add-div-right, div-eq-of-lt, mul-comm}
 use native.Mathlib.Omega.{arith}
 use lib.Pow.{pow-add, pow-pos}
 use Rattle.arithmetic.specs.Numbers.{Numbers}

@@ -1,20 +1,20 @@
 -- What the honest prover says along the coins, written down, is believed of the right outputs.
 -- The written prover answers as the honest one does, and nothing but answers counts.
-use mathlib.Core.Path.{_≡_, refl, sym, ap, ap₂, subst, _∙_}
+use mathlib.Core.Path.{_≡_, refl, sym, ap, ap₂, _∙_}
 use mathlib.Core.Bool.{Bool, true, cond, _&&_, not}
-use mathlib.Core.List.{List, [], _∷_, _++_}
-use Prim.Native.Nat.{ℕ, _+_, _-_, _*_, _^_, _<_, _≤_}
+use mathlib.Core.List.{List, [], _++_}
+use Prim.Native.Nat.{ℕ, _+_, _-_, _^_, _<_, _≤_}
 use native.Mathlib.Nat.{le-of-eq}
 use native.Mathlib.Omega.{arith}
-use lib.Dec.{T, eqb}
+use lib.Dec.{eqb}
 use lib.ListN.{length, take, drop, getD, length-drop}
 use lib.Pow.{pow-add}
 use lib.Seq.{take-add}
-use Rattle.std.proofs.shelf.Lists.{length-take-le, take-take, drop-take, take-at, drop-at}
-use Rattle.std.proofs.shelf.Tests.{and-parts, and-from, eq-eqb}
+use Rattle.std.proofs.shelf.Lists.{length-take-le, take-at, drop-at}
+use Rattle.std.proofs.shelf.Tests.{and-from, eq-eqb}
 use Rattle.arithmetic.specs.Numbers.{modulo, allReduced}
 use Rattle.arithmetic.proofs.Truth.{path-of-T, T-of-path}
-use Rattle.circuits.specs.Circuit.{Circuit, lawful, layersFit, outputSize, outputs, sizeBelow, allValues}
+use Rattle.circuits.specs.Circuit.{Circuit, lawful, outputSize, outputs}
 use Rattle.circuits.specs.Words.{modulus, circuitOf, isCircuit}
 use Rattle.circuits.proofs.Parts.{circuit-layers}
 use Rattle.circuits.proofs.Reduced.{reduced-each}
@@ -23,7 +23,7 @@ use Rattle.tables.proofs.ReducedLists.{reduced-from}
 use Rattle.argument.specs.Argument.{accepts, coinsOf, firstCoins, firstClaim, layerCoins}
 use Rattle.argument.specs.Honest.{honest, honestFrom}
 use Rattle.argument.specs.Claims.{Claim}
-use Rattle.argument.specs.Transcript.{answersOf, answerWords, answersAlong, judged, proveVerdict, proverOf, spoken}
+use Rattle.argument.specs.Transcript.{answersOf, answerWords, answersAlong, judged, proveVerdict, proverOf}
 use Rattle.argument.proofs.Copies.{allValues-full}
 use Rattle.argument.proofs.Main.{main}
 use Rattle.proving.specs.Proves.{Ready, Answered}

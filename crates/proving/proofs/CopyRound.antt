@@ -3,9 +3,9 @@
 use mathlib.Core.Path.{_≡_, refl, sym, ap, ap₂, _∙_}
 use mathlib.Core.List.{List, [], _∷_, _++_}
 use Prim.Native.Nat.{ℕ, zero, suc, _+_, _-_, _*_, _^_, _<_, _≤_}
-use native.Mathlib.Nat.{add-assoc, add-mul, mul-le-mul-right, two-pow-succ, zero-add}
+use native.Mathlib.Nat.{add-mul, mul-le-mul-right}
 use native.Mathlib.Omega.{arith}
-use lib.ListN.{length, getD, take, drop, List·getD-append}
+use lib.ListN.{length, getD, drop, List·getD-append}
 use lib.Pow.{pow-add}
 use lib.Seq.{getD-append-add, getD-take, getD-drop}
 use Rattle.arithmetic.specs.Numbers.{Numbers}
@@ -15,10 +15,10 @@ use Rattle.tables.specs.InPlace.{onLine}
 use Rattle.tables.specs.Multilinear.{mle, bitsOf, sumCorners}
 use Rattle.tables.proofs.Extension.{mle-halves}
 use Rattle.tables.proofs.Places.{halves, placed}
-use Rattle.circuits.specs.Circuit.{Kind, Gate, combine}
+use Rattle.circuits.specs.Circuit.{Gate, combine}
 use Rattle.argument.proofs.Copies.{Reads}
 use Rattle.proving.specs.Phases.{gateSum, copySum}
-use Rattle.proving.specs.Rows.{row, rowSum, rowTerm, rowsSum}
+use Rattle.proving.specs.Rows.{row, rowSum, rowsSum}
 use Rattle.proving.proofs.AlongPlaces.{sumAlong, along-corners, bits-join}
 
 module _ {K : Type 0} {N : Numbers K} (R : Ring N) where

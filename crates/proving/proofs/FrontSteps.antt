@@ -1,12 +1,11 @@
 -- A call on the front of some words, seen in the whole: the front is what the call left, whatever lies behind it.
 -- The checker has the front's end as `count - 0`.
-use mathlib.Core.Path.{_≡_, refl, sym, ap, subst, _∙_}
+use mathlib.Core.Path.{_≡_, sym, ap, subst, _∙_}
 use mathlib.Core.List.{List, _++_}
 use Prim.Native.Nat.{ℕ, _-_, _/_, _<_, _≤_}
-use native.Mathlib.Nat.{sub-zero}
 use native.Mathlib.Omega.{arith}
 use lib.Dec.{T}
-use lib.ListN.{length, take, drop, replicate, length-replicate, length-append}
+use lib.ListN.{length, take, drop, length-append}
 use Rattle.std.proofs.shelf.Lists.{take-at, take-append-le, length-take-le}
 use Rattle.arithmetic.specs.Numbers.{modulo, allReduced}
 use Rattle.arithmetic.proofs.Modulo.{ringModulo}

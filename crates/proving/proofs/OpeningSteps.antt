@@ -1,13 +1,13 @@
 -- The prover at the outputs' layer says what the honest prover says after the first coins.
 -- Its words are parts of the circuit's and of these coins.
-use mathlib.Core.Path.{_≡_, refl, sym, ap, ap₂, subst, _∙_}
-use mathlib.Core.Bool.{Bool, true, _&&_}
+use mathlib.Core.Path.{_≡_, sym, ap, ap₂, subst, _∙_}
+use mathlib.Core.Bool.{true, _&&_}
 use mathlib.Core.List.{List, [], _∷_, _++_}
-use Prim.Native.Nat.{ℕ, zero, suc, _+_, _-_, _*_, _^_, _<_, _≤_}
+use Prim.Native.Nat.{ℕ, _+_, _-_, _*_, _^_, _<_, _≤_}
 use native.Mathlib.Omega.{arith}
 use denote.Ref.{now}
 use lib.Dec.{T, leb}
-use lib.ListN.{length, take, drop, getD}
+use lib.ListN.{length, take, drop}
 use lib.Pow.{pow-add}
 use Rattle.std.proofs.shelf.Lists.{drop-take, take-take, take-at, drop-at, length-take-le}
 use Rattle.std.proofs.shelf.Tests.{and-parts, leb-true}
@@ -22,7 +22,7 @@ use Rattle.argument.specs.Argument.{firstCoins, layerCoins, firstClaim}
 use Rattle.argument.specs.Honest.{honest, honestFrom}
 use Rattle.argument.specs.Transcript.{layerWords, answerWords}
 use Rattle.judging.specs.Meaning as Meaning
-use Rattle.proving.specs.Provers.{Sound, SecondLong, claimHeld, copiesOf, belowOf, variablesOf, told, speaks, coinsLeft, wordsLeft, Opened}
+use Rattle.proving.specs.Provers.{Sound, SecondLong, claimHeld, copiesOf, belowOf, told, speaks, coinsLeft, wordsLeft, Opened}
 use Rattle.proving.specs.Standing.{claimOn}
 use Rattle.proving.specs.declared.prover.HonestProver.{HonestProver}
 use Rattle.proving.proofs.ProverHears.{top-limit}

@@ -1,12 +1,11 @@
 -- The prover's stand after a coin, part by part, and at the start of the next part.
 -- What belongs to the other parts is ruled out by how many coins there are.
-use mathlib.Core.Path.{_≡_, refl, sym, ap, ap₂, subst, _∙_}
+use mathlib.Core.Path.{_≡_, sym, ap, subst, _∙_}
 use mathlib.Core.List.{List, [], _∷_, _++_}
-use Prim.Native.Nat.{ℕ, suc, _+_, _-_, _*_, _^_, _<_, _≤_}
+use Prim.Native.Nat.{ℕ, suc, _+_, _-_, _*_, _<_, _≤_}
 use native.Mathlib.Omega.{arith}
-use lib.Dec.{T}
-use lib.ListN.{length, take, drop, set, length-drop, length-set}
-use Rattle.std.proofs.shelf.Lists.{length-take-le, take-more-set, take-append-le, drop-append-le, length-push, take-all, drop-all, nil-from-length}
+use lib.ListN.{length, take, drop, set, length-drop}
+use Rattle.std.proofs.shelf.Lists.{take-more-set, take-append-le, drop-append-le, length-push, take-all, drop-all}
 use Rattle.circuits.specs.Circuit.{Layer}
 use Rattle.argument.specs.Claims.{Claim}
 use Rattle.proving.specs.Standing.{CopyTables, LeftTables, RightTables, Fixed}

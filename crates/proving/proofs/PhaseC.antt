@@ -2,7 +2,7 @@
 -- Each gate's eq polynomials pick out its two values, so that no pair of places is ever looked at.
 use mathlib.Core.Path.{_≡_, refl, sym, ap, ap₂, _∙_}
 use mathlib.Core.List.{List, [], _∷_, _++_}
-use Prim.Native.Nat.{ℕ, zero, suc, _+_}
+use Prim.Native.Nat.{ℕ, _+_}
 use lib.ListN.{length}
 use Rattle.arithmetic.specs.Numbers.{Numbers}
 use Rattle.arithmetic.proofs.Ring.{Ring, zero-mul, reduce-add, reduce-mul}

@@ -1,15 +1,15 @@
 -- The variables of x: the sum over y of the layer's expression is V(x) H(x) + J(x), by two tables gathered over the gates.
 -- Each gate adds at its left place; its eq polynomial of y picks the value at its right place.
 use mathlib.Core.Path.{_≡_, refl, sym, ap, ap₂, _∙_}
-use mathlib.Core.List.{List, [], _∷_, _++_}
-use Prim.Native.Nat.{ℕ, zero, suc, _+_, _^_, _<_}
-use lib.ListN.{length, getD, set, replicate, length-set, length-replicate}
+use mathlib.Core.List.{List, [], _∷_}
+use Prim.Native.Nat.{ℕ, _+_, _^_, _<_}
+use lib.ListN.{length, getD, replicate, length-set, length-replicate}
 use Rattle.arithmetic.specs.Numbers.{Numbers}
-use Rattle.arithmetic.proofs.Ring.{Ring, zero-mul, reduce-add, reduce-mul}
+use Rattle.arithmetic.proofs.Ring.{Ring, zero-mul, reduce-add}
 use Rattle.arithmetic.proofs.Solver.{var, con, _:+_, _:*_, red, solve}
 use Rattle.tables.specs.Multilinear.{mle, eqPoly, bitsOf, sumCorners}
 use Rattle.tables.proofs.Corners.{sumCorners-same, sumCorners-add, sumCorners-scale}
-use Rattle.tables.proofs.Linear.{Lin, lin-add-l, lin-mul-l, lin-mle, picked}
+use Rattle.tables.proofs.Linear.{lin-add-l, lin-mul-l, lin-mle, picked}
 use Rattle.tables.proofs.Places.{bits-length, placed}
 use Rattle.circuits.specs.Circuit.{Kind, sum, product, Gate, Layer, combine}
 use Rattle.argument.specs.Claims.{Claim, expected}

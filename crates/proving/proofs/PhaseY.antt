@@ -1,12 +1,12 @@
 -- The variables of y, x being fixed: the layer's expression is V(y) H(y) + J(y), by two tables gathered over the gates.
 -- Each gate adds at its right place, with its weight times eq of its left place at x.
 use mathlib.Core.Path.{_≡_, refl, sym, ap, ap₂, _∙_}
-use mathlib.Core.List.{List, [], _∷_, _++_}
-use Prim.Native.Nat.{ℕ, zero, suc, _+_, _^_, _<_}
-use lib.ListN.{length, getD, set, replicate, length-set, length-replicate}
+use mathlib.Core.List.{List, [], _∷_}
+use Prim.Native.Nat.{ℕ, _^_, _<_}
+use lib.ListN.{length, getD, replicate, length-set, length-replicate}
 use Rattle.arithmetic.specs.Numbers.{Numbers}
 use Rattle.arithmetic.proofs.Ring.{Ring, reduce-add}
-use Rattle.arithmetic.proofs.Solver.{var, con, _:+_, _:*_, red, solve}
+use Rattle.arithmetic.proofs.Solver.{var, _:*_, solve}
 use Rattle.tables.specs.Multilinear.{mle, eqPoly, bitsOf}
 use Rattle.circuits.specs.Circuit.{Kind, sum, product, Gate, Layer, combine}
 use Rattle.argument.specs.Claims.{Claim, expected}

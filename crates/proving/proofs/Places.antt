@@ -5,10 +5,10 @@ use mathlib.Core.List.{List, [], _∷_}
 use Prim.Native.Nat.{ℕ, zero, suc, _+_, _^_, _<_}
 use native.Mathlib.Nat.{add-zero, not-suc-le-zero, le-of-suc-le-suc}
 use native.Mathlib.Omega.{arith}
-use lib.ListN.{length, getD, set, replicate, length-set, length-replicate}
+use lib.ListN.{length, getD, replicate, length-set, length-replicate}
 use Rattle.arithmetic.specs.Numbers.{Numbers}
 use Rattle.arithmetic.proofs.Ring.{Ring}
-use Rattle.arithmetic.proofs.Solver.{var, con, _:+_, _:*_, solve}
+use Rattle.arithmetic.proofs.Solver.{var, _:+_, _:*_, solve}
 use Rattle.tables.specs.Multilinear.{mle, eqPoly, bitsOf}
 use Rattle.tables.specs.Theorems.{sumPlaces}
 use Rattle.tables.proofs.Places.{sumPlaces-mle}

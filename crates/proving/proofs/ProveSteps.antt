@@ -1,15 +1,14 @@
 -- From the answers of the prover at the outputs' layer to what the honest prover says along all coins.
 -- The coins that choose the outputs' point come before all answers.
-use mathlib.Core.Path.{_≡_, refl, sym, ap, ap₂, subst, _∙_}
-use mathlib.Core.List.{List, _++_}
+use mathlib.Core.Path.{_≡_, sym, ap, ap₂, _∙_}
+use mathlib.Core.List.{List}
 use Prim.Native.Nat.{ℕ, _+_, _-_, _≤_}
 use native.Mathlib.Omega.{arith}
 use lib.ListN.{length, take, drop, length-drop}
-use Rattle.std.proofs.shelf.Lists.{take-all, take-rest}
+use Rattle.std.proofs.shelf.Lists.{take-rest}
 use Rattle.arithmetic.specs.Numbers.{modulo}
-use Rattle.argument.specs.Argument.{firstCoins, coinsOf}
+use Rattle.argument.specs.Argument.{firstCoins}
 use Rattle.argument.specs.Honest.{honest}
-use Rattle.argument.specs.Sumcheck.{Prover}
 use Rattle.argument.specs.Transcript.{answersAlong, spoken}
 use Rattle.circuits.specs.Circuit.{Circuit}
 use Rattle.circuits.specs.Words.{modulus}

@@ -3,26 +3,24 @@
 use mathlib.Core.Path.{_≡_, refl, sym, ap, ap₂, subst, _∙_}
 use mathlib.Core.Bool.{Bool, cond}
 use mathlib.Core.List.{List, [], _∷_, _++_, append-assoc}
-use Prim.Native.Nat.{ℕ, zero, suc, _+_, _-_, _*_, _^_, _<_, _≤_}
+use Prim.Native.Nat.{ℕ, zero, _+_, _-_, _*_, _<_, _≤_}
 use native.Mathlib.Decide.{decLt}
 use native.Mathlib.Omega.{arith}
 use denote.Ref.{now}
-use lib.Dec.{ltb}
-use lib.ListN.{length, take, drop, getD}
-use Rattle.std.proofs.shelf.Lists.{drop-more, length-take-le, drop-take}
+use lib.ListN.{take, drop}
 use Rattle.std.proofs.shelf.Tests.{lt-ltb, le-ltb}
 use Rattle.arithmetic.specs.Numbers.{modulo}
 use Rattle.circuits.specs.Circuit.{Layer, sizeBelow}
 use Rattle.circuits.specs.Parts.{areLayers}
-use Rattle.circuits.specs.Views.{layerSeen, layersSeen, copiesAbove, inputsBelow, sizeSeen, placesBelow, noLayer}
+use Rattle.circuits.specs.Views.{layerSeen, layersSeen, inputsBelow}
 use Rattle.circuits.specs.Words.{modulus, layersOf, shaped}
 use Rattle.circuits.proofs.Parts.{layers-parts}
 use Rattle.circuits.proofs.Steps.{shaped-starts, top-none, top-some}
-use Rattle.argument.specs.Claims.{Share, Claim}
+use Rattle.argument.specs.Claims.{Claim}
 use Rattle.argument.specs.Argument.{layerCoins}
 use Rattle.argument.specs.Honest.{honestFrom}
 use Rattle.argument.specs.Transcript.{layerWords}
-use Rattle.proving.specs.Provers.{Sound, Stands, Alike, Heard, claimHeld, copiesOf, belowOf, variablesOf, told, speaks, coinsLeft, wordsLeft, answerLength, pushed, withFactor, withValue}
+use Rattle.proving.specs.Provers.{Sound, Alike, Heard, claimHeld, copiesOf, belowOf, variablesOf, told, answerLength, pushed, withFactor, withValue}
 use Rattle.proving.specs.Standing.{claimOn}
 use Rattle.proving.specs.declared.prover.HonestProver.{HonestProver}
 use Rattle.proving.proofs.ProverSays.{says-next}

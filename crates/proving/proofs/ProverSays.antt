@@ -1,22 +1,21 @@
 -- What the prover says at each of its stands is what the honest prover says after the same coins.
 -- After the last coin of a layer it goes on as the prover of the layer below does.
-use mathlib.Core.Path.{_≡_, refl, sym, ap, ap₂, subst, _∙_}
-use mathlib.Core.List.{List, [], _∷_, _++_, append-assoc, append-nil}
-use Prim.Native.Nat.{ℕ, _+_, _-_, _*_, _^_, _<_, _≤_}
+use mathlib.Core.Path.{_≡_, sym, ap, _∙_}
+use mathlib.Core.List.{List, [], _∷_, _++_, append-assoc}
+use Prim.Native.Nat.{ℕ, _+_, _-_, _*_, _<_, _≤_}
 use native.Mathlib.Omega.{arith}
 use denote.Ref.{now}
 use lib.ListN.{length, take, drop, length-drop}
 use Rattle.std.proofs.shelf.Lists.{length-take-le, take-append-drop, drop-drop}
 use Rattle.arithmetic.specs.Numbers.{Numbers, modulo}
 use Rattle.tables.specs.Multilinear.{mle, sumCorners}
-use Rattle.circuits.specs.Circuit.{Layer, sizeBelow}
+use Rattle.circuits.specs.Circuit.{Layer}
 use Rattle.circuits.specs.Views.{layerSeen, layersSeen, inputsBelow}
 use Rattle.circuits.specs.Words.{modulus}
-use Rattle.argument.specs.Claims.{Share, Claim}
 use Rattle.argument.specs.Sumcheck.{Prover, respond}
 use Rattle.argument.specs.Honest.{honestFrom}
 use Rattle.argument.specs.Argument.{claimBelow}
-use Rattle.proving.specs.Provers.{Sound, Stands, claimHeld, valuesHeld, copiesOf, belowOf, variablesOf, told, speaks}
+use Rattle.proving.specs.Provers.{Sound, claimHeld, valuesHeld, copiesOf, belowOf, variablesOf, told, speaks}
 use Rattle.proving.specs.Standing.{claimOn, termOf}
 use Rattle.proving.specs.declared.prover.HonestProver.{HonestProver}
 use Rattle.proving.proofs.ProverSteps.{told-length}

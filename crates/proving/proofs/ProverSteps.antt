@@ -1,11 +1,11 @@
 -- The prover's own words: how many coins it has, and that it stays sound as the point grows.
 -- And its stand where a part of the layer begins, its tables being made or not needed.
-use mathlib.Core.Path.{_≡_, refl, sym, ap, ap₂, subst, _∙_}
+use mathlib.Core.Path.{_≡_, sym, ap, ap₂, subst, _∙_}
 use mathlib.Core.List.{List, [], _∷_, _++_}
-use Prim.Native.Nat.{ℕ, _+_, _-_, _*_, _<_, _≤_}
+use Prim.Native.Nat.{ℕ, _+_, _-_, _<_, _≤_}
 use native.Mathlib.Omega.{arith}
 use lib.Dec.{T}
-use lib.ListN.{length, take, drop, set, length-set}
+use lib.ListN.{length, take, drop, length-set}
 use Rattle.std.proofs.shelf.Lists.{length-take-le, take-more-set, drop-take}
 use Rattle.std.specs.declared.option.Option.{Option}
 use Rattle.arithmetic.specs.Numbers.{modulo, allReduced}
@@ -17,7 +17,7 @@ use Rattle.judging.specs.Shares.{ShareFits, SecondFits, shareSeen, secondSeen, 
 use Rattle.judging.specs.declared.share.ShareView.{ShareView}
 use Rattle.tables.proofs.ReducedLists.{reduced-take, reduced-drop}
 use Rattle.proving.specs.Provers.{Parts, Sound, Stands, claimHeld, valuesHeld, copiesOf, belowOf, variablesOf, told, pushed, withFactor, withValue}
-use Rattle.proving.specs.Standing.{Rooms, CopyTables, LeftTables, RightTables}
+use Rattle.proving.specs.Standing.{CopyTables, LeftTables, RightTables}
 use Rattle.proving.specs.declared.prover.HonestProver.{HonestProver}
 use Rattle.proving.proofs.Gathering.{reduced-set}
 use Rattle.proving.proofs.PartSteps.{parts-on-left, parts-on-right, copies-fixed, parts-at-left, left-fixed, parts-at-right}

@@ -1,6 +1,6 @@
 -- An honest prover's answers depend only on what its functions are at points of the right length.
 -- So it may hold any other form of the sum that is left, and go on from that.
-use mathlib.Core.Path.{_≡_, refl, ap, ap₂, _∙_}
+use mathlib.Core.Path.{_≡_, refl, ap}
 use mathlib.Core.List.{List, [], _∷_}
 use Prim.Native.Nat.{ℕ, zero, suc}
 use lib.ListN.{length}

@@ -1,9 +1,9 @@
 -- The steps of a round's pass over rows and gates, from the last to the first, for the numbers modulo p.
 -- At the end the four sums are the round's values.
-use mathlib.Core.Path.{_≡_, refl, sym, ap, ap₂, subst, _∙_}
+use mathlib.Core.Path.{_≡_, sym, ap, ap₂, subst, _∙_}
 use mathlib.Core.Bool.{true, _&&_}
 use mathlib.Core.List.{List, [], _∷_}
-use Prim.Native.Nat.{ℕ, zero, suc, _+_, _-_, _*_, _/_, _^_, _<_, _≤_}
+use Prim.Native.Nat.{ℕ, suc, _+_, _-_, _*_, _/_, _^_, _<_, _≤_}
 use native.Mathlib.Nat.{add-mul, mul-le-mul-right, two-pow-succ}
 use native.Mathlib.Omega.{arith}
 use lib.Dec.{T, ltb}
@@ -11,7 +11,7 @@ use lib.ListN.{length, getD, take, drop, length-drop}
 use lib.Pow.{pow-add}
 use Rattle.std.proofs.shelf.Lists.{drop-more, drop-all, length-take-le}
 use Rattle.std.proofs.shelf.Tests.{and-parts, ltb-true}
-use Rattle.arithmetic.specs.Numbers.{Numbers, modulo, allReduced}
+use Rattle.arithmetic.specs.Numbers.{modulo, allReduced}
 use Rattle.arithmetic.proofs.Modulo.{ringModulo}
 use Rattle.argument.specs.Sumcheck.{fourValues}
 use Rattle.argument.proofs.Copies.{Reads}

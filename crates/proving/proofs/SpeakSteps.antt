@@ -3,12 +3,11 @@
 use mathlib.Core.Path.{_≡_, refl, sym, ap, ap₂, subst, _∙_}
 use mathlib.Core.Bool.{Bool, cond}
 use mathlib.Core.List.{List, [], _∷_, _++_, append-assoc, append-nil}
-use Prim.Native.Nat.{ℕ, zero, suc, _+_, _-_, _*_, _<_, _≤_}
-use native.Mathlib.Nat.{add-zero, add-suc, zero-add}
-use native.Mathlib.Numerals.{add-one}
+use Prim.Native.Nat.{ℕ, zero, suc, _+_, _-_, _<_, _≤_}
+use native.Mathlib.Nat.{add-zero, zero-add}
 use native.Mathlib.Omega.{arith}
 use lib.Dec.{T}
-use lib.ListN.{length, take, getD, length-append}
+use lib.ListN.{length, take, getD}
 use Rattle.std.proofs.shelf.Lists.{take-more, take-all}
 use Rattle.std.proofs.shelf.Tests.{le-ltb}
 use Rattle.arithmetic.specs.Numbers.{modulo, allReduced}
@@ -19,7 +18,7 @@ use Rattle.circuits.specs.Circuit.{Layer}
 use Rattle.circuits.specs.Views.{layersSeen, inputsBelow}
 use Rattle.circuits.specs.Words.{modulus}
 use Rattle.tables.proofs.ReducedLists.{reduced-append}
-use Rattle.proving.specs.Provers.{Stands, Heard, speaks, coinsLeft, wordsLeft, answerLength, copiesOf, variablesOf}
+use Rattle.proving.specs.Provers.{Heard, speaks, coinsLeft, wordsLeft, answerLength, copiesOf, variablesOf}
 use Rattle.proving.specs.declared.prover.HonestProver.{HonestProver}
 
 along-more : (m : ℕ) (f : Prover ℕ) (n : ℕ) (coins : List ℕ) → answersAlong (m + 1) f n coins ≡ answersAlong m f n coins ++ f (take (n + m) coins)

@@ -2,7 +2,7 @@
 -- What the code leaves in them is what the part's sum is about.
 use mathlib.Core.Path.{_≡_, refl, sym, ap, ap₂, subst, _∙_}
 use mathlib.Core.List.{List, [], _∷_, _++_, append-nil, map}
-use Prim.Native.Nat.{ℕ, zero, suc, _+_, _*_, _%_, _^_, _<_, _≤_}
+use Prim.Native.Nat.{ℕ, _+_, _*_, _%_, _^_, _<_, _≤_}
 use native.Mathlib.Nat.{one-mul, mod-eq-of-lt, suc-inj, suc-ne-zero}
 use native.Mathlib.Omega.{arith}
 use lib.Dec.{T}
@@ -14,18 +14,18 @@ use Rattle.arithmetic.proofs.Modulo.{ringModulo}
 use Rattle.arithmetic.proofs.Ring.{Ring}
 use Rattle.arithmetic.proofs.Solver.{var, con, _:+_, _:*_, _:-_, solve}
 use Rattle.tables.specs.InPlace.{eqTable}
-use Rattle.tables.specs.Multilinear.{mle, eqPoly, bitsOf, sumCorners}
+use Rattle.tables.specs.Multilinear.{mle, eqPoly, bitsOf}
 use Rattle.tables.specs.Theorems.{sumPlaces}
 use Rattle.tables.proofs.Corners.{sumCorners-same}
 use Rattle.tables.proofs.EqSteps.{eqTable-length, eqTable-at, eqTable-cons}
 use Rattle.tables.proofs.Extension.{mle-halves}
 use Rattle.tables.proofs.Places.{sumPlaces-mle}
 use Rattle.tables.proofs.ReducedLists.{reduced-anywhere}
-use Rattle.circuits.specs.Circuit.{Gate, Layer}
+use Rattle.circuits.specs.Circuit.{Layer}
 use Rattle.argument.specs.Claims.{Claim, expected}
 use Rattle.argument.proofs.Copies.{Reads}
 use Rattle.proving.specs.Phases.{layerWeights, scaled, productSum, weightsAt, gatherH, gatherJ, gatherHy, gatherJy}
-use Rattle.proving.specs.Standing.{termOf, CopyTables, ProductTables, LeftTables, RightTables}
+use Rattle.proving.specs.Standing.{termOf, CopyTables, LeftTables, RightTables}
 use Rattle.proving.proofs.PhaseX.{phase-x}
 use Rattle.proving.proofs.PhaseY.{phase-y}
 

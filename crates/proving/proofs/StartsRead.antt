@@ -1,15 +1,14 @@
 -- The starts of a layer's parts, from what the calls promise: with counts of gates and places as the code has them.
 -- The checker has a front's end as `count - 0`.
-use mathlib.Core.Path.{_≡_, refl, sym, ap, ap₂, subst, _∙_}
-use mathlib.Core.List.{List, [], _∷_, _++_}
-use Prim.Native.Nat.{ℕ, _+_, _*_, _^_, _<_, _≤_}
-use native.Mathlib.Omega.{arith}
+use mathlib.Core.Path.{_≡_, sym, ap, ap₂, subst, _∙_}
+use mathlib.Core.List.{List, []}
+use Prim.Native.Nat.{ℕ, _*_, _^_, _<_, _≤_}
 use lib.Dec.{T}
 use lib.ListN.{length, getD, take, replicate}
 use Rattle.arithmetic.specs.Numbers.{Numbers, modulo, allReduced}
 use Rattle.tables.specs.InPlace.{eqTable}
-use Rattle.circuits.specs.Circuit.{Gate, Layer}
-use Rattle.argument.specs.Claims.{Share, Claim}
+use Rattle.circuits.specs.Circuit.{Layer}
+use Rattle.argument.specs.Claims.{Claim}
 use Rattle.argument.proofs.Copies.{Reads}
 use Rattle.proving.specs.Phases.{weights, layerWeights, scaled, weightsAt, gatherH, gatherJ, gatherHy, gatherJy}
 use Rattle.proving.specs.Standing.{CopyTables, LeftTables, RightTables}

@@ -1,10 +1,10 @@
 -- What the tables give as an answer, and what they stand for after a coin, for the numbers modulo p.
 -- A coin fixes the first variable that is left in each of them.
-use mathlib.Core.Path.{_≡_, refl, sym, ap, ap₂, _∙_}
+use mathlib.Core.Path.{_≡_, sym, ap, ap₂, _∙_}
 use mathlib.Core.List.{List, [], _∷_, _++_, append-assoc}
 use Prim.Native.Nat.{ℕ, suc, _*_, _^_, _<_}
 use lib.Dec.{T}
-use lib.ListN.{length, take}
+use lib.ListN.{take}
 use Rattle.arithmetic.specs.Numbers.{modulo, allReduced}
 use Rattle.arithmetic.proofs.Modulo.{ringModulo}
 use Rattle.tables.specs.Multilinear.{fixFirst, mle, eqPoly, sumCorners}

@@ -1,13 +1,13 @@
 -- The weights of a layer's gates as a list, from what stands at each of its places.
 -- And facts about a front, carried from what a call left to the whole.
-use mathlib.Core.Path.{_≡_, refl, sym, ap, ap₂, subst, _∙_}
-use mathlib.Core.List.{List, [], _∷_, _++_}
-use Prim.Native.Nat.{ℕ, zero, suc, _+_, _-_, _^_, _<_, _≤_}
+use mathlib.Core.Path.{_≡_, refl, sym, ap, subst, _∙_}
+use mathlib.Core.List.{List, _++_}
+use Prim.Native.Nat.{ℕ, zero, suc, _+_, _-_, _<_}
 use native.Mathlib.Nat.{add-zero, le-of-suc-le-suc, not-suc-le-zero, zero-add}
 use native.Mathlib.Omega.{arith}
 use lib.Dec.{T, ltb, lt→ltb}
 use lib.ListN.{length, getD, take, replicate}
-use Rattle.std.proofs.shelf.Lists.{ext-getD, take-at, length-take-le}
+use Rattle.std.proofs.shelf.Lists.{ext-getD, take-at}
 use Rattle.arithmetic.specs.Numbers.{Numbers, modulo, allReduced}
 use Rattle.arithmetic.proofs.Truth.{and-both}
 use Rattle.argument.specs.Claims.{Share}

@@ -1,8 +1,8 @@
 -- 2^31 - 1 is whole: it has no divisor but 1 and itself, which trying all numbers up to 2^16 shows.
 -- A product that it divides has a factor that it divides, by division with rest again and again.
-use mathlib.Core.Path.{_≡_, refl, sym, ap, subst, _∙_}
+use mathlib.Core.Path.{_≡_, refl, sym, ap, _∙_}
 use mathlib.Core.Bool.{Bool, true, false, _&&_, not}
-use mathlib.Core.List.{List, [], _∷_}
+use mathlib.Core.List.{[], _∷_}
 use mathlib.Core.Logic.{_⊎_, inl, inr}
 use Prim.Native.Nat.{ℕ, zero, suc, _+_, _-_, _*_, _/_, _%_, _^_, _<_, _≤_}
 use native.Mathlib.Nat.{mod-lt, mod-self, mod-eq-of-lt, div-add-mod', mul-mod-left, mul-le-mul, mul-comm, one-mul, two-pow-succ}
@@ -10,7 +10,7 @@ use native.Mathlib.Decide.{decLt}
 use native.Mathlib.Omega.{arith}
 use lib.Dec.{eqb}
 use Rattle.std.proofs.shelf.Tests.{and-parts, eq-eqb}
-use Rattle.arithmetic.specs.Numbers.{modulo, Whole}
+use Rattle.arithmetic.specs.Numbers.{Whole}
 use Rattle.arithmetic.proofs.Modulo.{ringModulo}
 use Rattle.arithmetic.proofs.Solver.{var, con, _:+_, _:*_, _:-_, solve-by, given}
 use Rattle.circuits.specs.Words.{modulus}

@@ -1,13 +1,13 @@
 -- What the honest prover says along coins, written down and taken apart again, is what it says.
 -- Layer by layer: answers of four numbers for the variables, one of two, and then those of the layers below.
-use mathlib.Core.Path.{_≡_, refl, sym, ap, ap₂, subst, _∙_}
+use mathlib.Core.Path.{_≡_, refl, sym, ap, _∙_}
 use mathlib.Core.List.{List, [], _∷_, _++_, append-assoc, append-nil}
-use Prim.Native.Nat.{ℕ, zero, suc, _+_, _-_, _*_, _^_, _<_, _≤_}
+use Prim.Native.Nat.{ℕ, zero, suc, _+_, _-_, _*_, _^_, _<_}
 use native.Mathlib.Decide.{decLt}
 use native.Mathlib.Omega.{arith}
-use lib.ListN.{length, take, drop, getD, length-drop, length-append}
+use lib.ListN.{length, take, drop, getD, length-drop}
 use lib.Seq.{take-add}
-use Rattle.std.proofs.shelf.Lists.{length-take-le, take-at, drop-at, drop-drop, take-more, drop-more, getD-append-left, getD-append-right}
+use Rattle.std.proofs.shelf.Lists.{length-take-le, take-at, drop-at, drop-drop, take-more, getD-append-left, getD-append-right}
 use Rattle.arithmetic.specs.Numbers.{Numbers}
 use Rattle.tables.specs.Multilinear.{mle}
 use Rattle.circuits.specs.Circuit.{Layer, sizeBelow, allValues}
@@ -17,7 +17,7 @@ use Rattle.argument.specs.Argument.{claimBelow, layerCoins}
 use Rattle.argument.specs.Honest.{honestFrom}
 use Rattle.argument.specs.Transcript.{fours, answersOf, answersAlong}
 use Rattle.proving.proofs.Splitting.{along-shift, along-append, fours-length, fours-rest, fours-at}
-use Rattle.proving.proofs.Telling.{afterCopies, afterLeft, afterRight, told-copies, told-left, told-right, told-values, told-next}
+use Rattle.proving.proofs.Telling.{told-copies, told-left, told-right, told-values, told-next}
 
 module _ (N : Numbers ℕ) where
   respond-four : (n : ℕ) (G : List ℕ → ℕ) (next : List ℕ → Prover ℕ) → 0 < n → length (respond N n G next []) ≡ 4

@@ -1,4 +1,5 @@
 -- The numbers of an answer.
+-- A transcript has them one after the other.
 use mathlib.Core.List.{List}
 use Prim.Native.Nat.{ℕ}
 use Rattle.proving.specs.declared.answer.Answer.{Answer}

@@ -2,7 +2,7 @@
 -- i and q are 1 while the tables of x, or of y, are not made yet at the coin at which their part begins.
 use mathlib.Core.Path.{_≡_}
 use mathlib.Core.Bool.{cond}
-use mathlib.Core.List.{List, [], _∷_, _++_}
+use mathlib.Core.List.{List, _∷_, _++_}
 use Prim.Native.Nat.{ℕ, _+_, _-_, _*_, _^_, _<_, _≤_}
 use denote.Ref.{now}
 use lib.Dec.{T, ltb}

@@ -1,7 +1,7 @@
 // A coin of a layer's variables: the tables of the part that it belongs to are halved, and the point grows by it.
 // The tables of the part that then begins are not made yet.
 ghost use mathlib.Core.Path.{_≡_};
-ghost use Prim.Native.Nat.{ℕ, _<_};
+ghost use Prim.Native.Nat.{_<_};
 ghost use Rattle.circuits.specs.Words.{modulus};
 ghost use Rattle.proving.specs.Provers.{Sound, Stands, pushed, variablesOf};
 use crate::prover::HonestProver;

@@ -1,6 +1,6 @@
 // Functions of one variable by their values at 0, 1, 2 and 3: sums, products and multiples, number by number.
 // Four sums that belong together go as one value, so that a loop has one thing to keep.
-ghost use Prim.Native.Nat.{ℕ, _+_, _*_, _%_, _<_};
+ghost use Prim.Native.Nat.{ℕ, _<_};
 ghost use Rattle.arithmetic.specs.Numbers.{modulo};
 ghost use Rattle.proving.specs.Fours.{FourOf};
 ghost use Rattle.proving.specs.Rounds.{AllBelow};

@@ -1,7 +1,7 @@
 // A coin leads the prover on: within a layer, or from its two values to the layer below.
 // Where all coins of a layer are drawn, its point becomes the claim about the layer below.
 ghost use mathlib.Core.Path.{_≡_};
-ghost use Prim.Native.Nat.{ℕ, _<_};
+ghost use Prim.Native.Nat.{_<_};
 ghost use lib.ListN.{length};
 ghost use Rattle.circuits.specs.Views.{layersSeen};
 ghost use Rattle.circuits.specs.Words.{modulus};

@@ -1,7 +1,6 @@
 // Where a part of a layer begins, its tables are made; elsewhere they are left as they are.
 // A part with no variables ends where it begins, so that the next one begins at once.
 ghost use mathlib.Core.Path.{_≡_};
-ghost use Prim.Native.Nat.{ℕ};
 ghost use lib.ListN.{length};
 ghost use Rattle.proving.specs.Provers.{Sound, Stands, withFactor, withValue};
 ghost use Rattle.proving.specs.Standing.{Rooms};

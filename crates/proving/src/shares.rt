@@ -1,4 +1,5 @@
 // The shares of a claim that the prover holds, seen by the sums: their factors, and just the coordinates of their points.
+// The arrays have room for any point, so that only their fronts count.
 ghost use mathlib.Core.Path.{_≡_};
 ghost use Prim.Native.Nat.{_≤_};
 ghost use lib.ListN.{length};

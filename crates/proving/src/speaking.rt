@@ -2,7 +2,7 @@
 // Each is written before the coin after it is looked at; after the last coin nothing is answered.
 ghost use mathlib.Core.List.{_++_};
 ghost use mathlib.Core.Path.{_≡_};
-ghost use Prim.Native.Nat.{ℕ, _+_, _≤_};
+ghost use Prim.Native.Nat.{_+_, _≤_};
 ghost use lib.Dec.{T};
 ghost use lib.ListN.{length, take};
 ghost use Rattle.arithmetic.specs.Numbers.{modulo, allReduced};

@@ -1,5 +1,5 @@
 // A table of circuits and coins: what `prove` writes is judged, as it is and with each of its numbers changed by one.
-// Where a coin is 0 or 1, a value at 2 or 3 that was changed is not seen, since the polynomial is not looked at there.
+// A coin that is itself 0, 1, 2 or 3 looks at the value there alone, so that a change at 2 or 3 may not be seen.
 use judging::judge::Judge;
 use judging::judge::VerifierJudge;
 use judging::judge::VerifierJudgeJudge;
@@ -51,6 +51,49 @@ fn noughts(words: &[u32]) -> bool {
     true
 }
 
+// The three calls' answers, whether the work is clear then, and how many changed numbers are seen.
+#[derive(Clone, Copy)]
+struct Outcome {
+    ran: u32,
+    proved: u32,
+    judged: u32,
+    clear: bool,
+    seen: u32,
+}
+
+fn try_out(
+    circuit: &[u32],
+    inputs: &[u32],
+    coins: &[u32],
+    outputs: &mut [u32],
+    answers: &mut [u32],
+) -> Outcome {
+    let mut work = [7; 262144];
+    let ran = HonestHouse::run(circuit, inputs, outputs);
+    let proved = HonestHouse::prove(circuit, inputs, coins, answers, &mut work);
+    Outcome {
+        ran,
+        proved,
+        judged: VerifierJudge::judge(circuit, inputs, outputs, answers, coins),
+        clear: noughts(&work),
+        seen: seen(circuit, inputs, outputs, answers, coins),
+    }
+}
+
+fn show(rt: &LibcRuntime, name: &str, found: Outcome, all: usize) -> io::Result<()> {
+    let Outcome {
+        ran,
+        proved,
+        judged,
+        clear,
+        seen,
+    } = found;
+    println!(
+        rt,
+        "{name}: {ran} {proved} {judged}, work clear {clear}, {seen} of {all} seen"
+    )
+}
+
 fn row(
     rt: &LibcRuntime,
     name: &str,
@@ -60,17 +103,8 @@ fn row(
     outputs: &mut [u32],
     answers: &mut [u32],
 ) -> io::Result<()> {
-    let mut work = [7; 262144];
-    let ran = HonestHouse::run(circuit, inputs, outputs);
-    let proved = HonestHouse::prove(circuit, inputs, coins, answers, &mut work);
-    let clear = noughts(&work);
-    let judged = VerifierJudge::judge(circuit, inputs, outputs, answers, coins);
-    let count = seen(circuit, inputs, outputs, answers, coins);
-    let all = answers.len();
-    println!(
-        rt,
-        "{name}: {ran} {proved} {judged}, work clear {clear}, {count} of {all} seen"
-    )
+    let found = try_out(circuit, inputs, coins, outputs, answers);
+    show(rt, name, found, answers.len())
 }
 
 fn one_layer(rt: &LibcRuntime) -> io::Result<()> {

@@ -1,5 +1,4 @@
 -- Each of the four sums grows by the gate's value at the same place of its two lines.
-use Rattle.arithmetic.specs.Numbers.{modulo}
 use Rattle.arithmetic.proofs.Newton.{reduced-at}
 use Rattle.proving.proofs.RowSteps.{four-line}
 use Rattle.proving.proofs.copies.add_gate.Needs as need

@@ -1,10 +1,8 @@
 -- The parts of the point that were cut out are the new claim's.
-use mathlib.Core.Path.{_≡_, refl, sym, ap, ap₂, _∙_}
+use mathlib.Core.Path.{_≡_, refl, sym, ap₂, _∙_}
 use mathlib.Core.List.{List, _∷_}
-use Prim.Native.Nat.{ℕ, _+_, _<_}
+use Prim.Native.Nat.{ℕ}
 use native.Mathlib.Omega.{arith}
-use lib.Dec.{T}
-use lib.ListN.{length}
 use Rattle.arithmetic.specs.Numbers.{modulo, allReduced}
 use Rattle.arithmetic.proofs.Truth.{T-of-path}
 use Rattle.circuits.specs.Circuit.{sizeBelow, Layer}

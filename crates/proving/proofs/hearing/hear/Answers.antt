@@ -1,6 +1,6 @@
 -- Within the layer the prover moves on; at its end the layer below begins.
-use mathlib.Core.Path.{_≡_, _∙_}
-use Prim.Native.Nat.{ℕ, _<_}
+use mathlib.Core.Path.{_≡_}
+use Prim.Native.Nat.{_<_}
 use native.Mathlib.Omega.{arith}
 use Rattle.circuits.specs.Views.{layersSeen, inputsBelow}
 use Rattle.proving.specs.Provers.{copiesOf, variablesOf, pushed}

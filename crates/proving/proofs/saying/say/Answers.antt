@@ -1,10 +1,10 @@
 -- Each part's pass gives the answer of the honest prover there.
-use mathlib.Core.Path.{_≡_, refl, sym, ap, ap₂, subst, _∙_}
+use mathlib.Core.Path.{_≡_, sym, ap, ap₂, subst, _∙_}
 use mathlib.Core.Bool.{Bool, cond}
 use mathlib.Core.List.{List, [], _∷_, _++_, append-nil}
-use Prim.Native.Nat.{ℕ, _+_, _-_, _*_, _<_, _≤_}
+use Prim.Native.Nat.{ℕ, _+_, _-_, _*_, _<_}
 use native.Mathlib.Omega.{arith}
-use lib.Dec.{T, ltb, lt→ltb}
+use lib.Dec.{ltb, lt→ltb}
 use lib.ListN.{length, getD, take, drop}
 use Rattle.std.proofs.shelf.Tests.{lt-ltb, le-ltb}
 use Rattle.arithmetic.specs.Numbers.{modulo, allReduced}
@@ -14,7 +14,7 @@ use Rattle.circuits.specs.Views.{layerSeen}
 use Rattle.circuits.specs.Words.{modulus}
 use Rattle.tables.specs.Multilinear.{mle, sumCorners}
 use Rattle.proving.specs.Provers.{claimHeld, valuesHeld, copiesOf, belowOf, variablesOf, told}
-use Rattle.proving.specs.Standing.{termOf, CopyTables, ProductTables, LeftTables, RightTables}
+use Rattle.proving.specs.Standing.{termOf, CopyTables, ProductTables, RightTables}
 use Rattle.proving.proofs.ProverSays.{says-copies, says-left, says-right, says-values}
 use Rattle.proving.proofs.ProverSteps.{told-length}
 use Rattle.proving.proofs.Starting.{last-number}

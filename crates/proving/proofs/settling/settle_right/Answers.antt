@@ -3,10 +3,8 @@ use mathlib.Core.Path.{_≡_, refl, sym, ap, subst, _∙_}
 use mathlib.Core.List.{List, []}
 use Prim.Native.Nat.{ℕ, _+_, _-_, _<_, _≤_}
 use native.Mathlib.Omega.{arith}
-use lib.Dec.{T}
 use lib.ListN.{length, take, drop, length-drop}
 use Rattle.std.proofs.shelf.Lists.{length-take-le}
-use Rattle.arithmetic.specs.Numbers.{modulo, allReduced}
 use Rattle.circuits.specs.Views.{layerSeen}
 use Rattle.circuits.specs.Words.{modulus}
 use Rattle.proving.specs.Provers.{claimHeld, valuesHeld, belowOf, copiesOf, told}

@@ -1,12 +1,9 @@
 -- No coin is told yet, and the tables are those of all copies' variables.
-use mathlib.Core.Path.{_≡_, refl, sym, ap, _∙_}
-use mathlib.Core.List.{List}
-use Prim.Native.Nat.{ℕ, _+_, _-_, _<_, _≤_}
+use mathlib.Core.Path.{_≡_, sym, ap, _∙_}
+use Prim.Native.Nat.{ℕ, _-_, _≤_}
 use native.Mathlib.Nat.{sub-zero}
 use native.Mathlib.Omega.{arith}
-use lib.Dec.{T}
 use lib.ListN.{length, take}
-use Rattle.arithmetic.specs.Numbers.{modulo, allReduced}
 use Rattle.circuits.specs.Words.{modulus}
 use Rattle.tables.proofs.ReducedLists.{reduced-take}
 use Rattle.proving.specs.Provers.{claimHeld, copiesOf}

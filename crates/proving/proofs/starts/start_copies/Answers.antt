@@ -1,5 +1,5 @@
 -- The calls leave what the sum over the copies is about.
-use mathlib.Core.Path.{_≡_, refl, sym, ap, subst, _∙_}
+use mathlib.Core.Path.{_≡_, sym, ap, subst, _∙_}
 use mathlib.Core.List.{List}
 use Prim.Native.Nat.{ℕ, _*_, _^_, _<_, _≤_}
 use native.Mathlib.Omega.{arith}
@@ -11,7 +11,7 @@ use Rattle.argument.specs.Claims.{Share}
 use Rattle.circuits.proofs.Parts.{layers-parts}
 use Rattle.circuits.proofs.Steps.{length-gatesOf}
 use Rattle.circuits.proofs.WorkingOut.{all-below}
-use Rattle.circuits.specs.Circuit.{allValues, sizeBelow}
+use Rattle.circuits.specs.Circuit.{allValues}
 use Rattle.circuits.specs.Views.{layerSeen, layersSeen, copiesAbove, inputsBelow, sizeSeen, placesBelow}
 use Rattle.judging.proofs.Adding.{pow-at-most}
 use Rattle.tables.proofs.ReducedLists.{reduced-from}

@@ -1,9 +1,8 @@
 -- The fronts are whole tables, and the pass over them gives the answer.
-use mathlib.Core.Path.{_≡_, sym, ap, ap₂, _∙_}
-use Prim.Native.Nat.{ℕ, _+_, _-_, _*_, _^_, _<_, _≤_}
+use mathlib.Core.Path.{_≡_, sym, ap, _∙_}
+use Prim.Native.Nat.{ℕ, _+_, _-_, _*_, _^_, _<_}
 use native.Mathlib.Nat.{sub-zero}
 use native.Mathlib.Omega.{arith}
-use lib.ListN.{length, take}
 use lib.Pow.{pow-add}
 use Rattle.circuits.specs.Views.{layerSeen, sizeSeen, placesBelow}
 use Rattle.proving.proofs.FrontSteps.{front-length}

@@ -1,6 +1,5 @@
 -- The fronts are whole tables, and the pass over them gives the answer.
-use mathlib.Core.Path.{_≡_, sym, ap, _∙_}
-use Prim.Native.Nat.{ℕ, _-_, _^_, _<_}
+use Prim.Native.Nat.{_-_, _<_}
 use native.Mathlib.Nat.{sub-zero}
 use native.Mathlib.Omega.{arith}
 use Rattle.proving.proofs.FrontSteps.{front-length}

@@ -1,9 +1,6 @@
 -- Each of the three tables is halved.
-use mathlib.Core.Path.{_≡_, ap, sym}
-use Prim.Native.Nat.{ℕ, _^_, _≤_}
+use mathlib.Core.Path.{sym}
 use native.Mathlib.Omega.{arith}
-use lib.ListN.{length}
-use Rattle.judging.proofs.Adding.{pow-at-most}
 use Rattle.proving.proofs.StartsRead.{reduced-end}
 use Rattle.proving.proofs.TurnSteps.{fixed-turn}
 use Rattle.proving.proofs.turns.product_coin.Needs as need
