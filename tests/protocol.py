@@ -246,7 +246,12 @@ def honest_answers(circuit, inputs, coins, p=P):
     return answers_along(prove(circuit, inputs, coins[:first], p), coins[first:])
 
 
+def judged(circuit, inputs, outputs, answers, coins, p=P):
+    """The coins that the verifier draws and its verdict, on a transcript; where the answers end, nothing more is heard."""
+    left, answers = list(coins), iter(answers)
+    verdict = verify(circuit, inputs, outputs, lambda: left.pop(0), lambda: next(answers, None), p)
+    return coins[: len(coins) - len(left)], verdict
+
+
 def verdict(circuit, inputs, outputs, answers, coins, p=P):
-    """The verifier's verdict on a transcript; where the answers end, nothing more is heard."""
-    coins, answers = iter(coins), iter(answers)
-    return verify(circuit, inputs, outputs, lambda: next(coins), lambda: next(answers, None), p)
+    return judged(circuit, inputs, outputs, answers, coins, p)[1]

@@ -48,11 +48,10 @@ def house_agrees(example):
 def judged(example, answers, inputs=None, outputs=None, coins=None):
     """Holds what the judge prints, for numbers of which some are changed, to the reference."""
     inputs, outputs, coins = inputs or example.inputs, outputs or example.outputs, coins or example.coins
-    left, heard = list(coins), iter(answers)
-    verdict = protocol.verify(example.circuit, inputs, outputs, lambda: left.pop(0), lambda: next(heard, None))
+    drawn, verdict = protocol.judged(example.circuit, inputs, outputs, answers, coins)
     files = [example.circuit_file, file(inputs), file(outputs), file(column(coins))]
-    printed = column(coins[: len(coins) - len(left)]) + verdict + "\n"
-    prints("judge", files, "".join(line(answer) + "\n" for answer in answers), printed, 0 if verdict == "believed" else 1)
+    given = "".join(line(answer) + "\n" for answer in answers)
+    prints("judge", files, given, column(drawn) + verdict + "\n", 0 if verdict == "believed" else 1)
     return verdict
 
 
