@@ -1,4 +1,5 @@
 """Random circuits of many shapes, with inputs and coins. SEED in the environment gives others."""
+import functools
 import os
 import random
 
@@ -55,11 +56,17 @@ def random_circuit(rng, copies, inputs, sizes, kind):
     return circuit
 
 
-def example(name, *more):
+def fair(rng, count):
+    """Numbers by chance alone: as coins they hide no change."""
+    return [rng.randrange(P) for _ in range(count)]
+
+
+@functools.lru_cache(maxsize=None)
+def example(name, more="", coins=numbers):
     """An example of the named shape; other words give others of it."""
-    rng = generator(name, *more)
+    rng = generator(name, more)
     circuit = random_circuit(rng, *SHAPES[name])
-    return Example(circuit, numbers(rng, input_count(circuit)), numbers(rng, coin_count(circuit)))
+    return Example(circuit, numbers(rng, input_count(circuit)), coins(rng, coin_count(circuit)))
 
 
 def random_example(k):

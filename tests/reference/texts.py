@@ -18,10 +18,14 @@ def number_of(word):
     return int(word)
 
 
+def line_numbers(line):
+    """The numbers of a line; a carriage return counts as a space."""
+    return [number_of(word) for word in line.rstrip(b"\n").replace(b"\r", b" ").split(b" ") if word]
+
+
 def numbers_of(text):
-    """The numbers of a text; a carriage return before a line end counts as a space."""
-    lines = [line for line in text.split(b"\n") if not line.startswith(b"#")]
-    return [number_of(word) for line in lines for word in line.replace(b"\r", b" ").split(b" ") if word]
+    """The numbers of a file's text; lines that begin with # are passed over."""
+    return [n for line in text.split(b"\n") if not line.startswith(b"#") for n in line_numbers(line)]
 
 
 def read_whole(path):
