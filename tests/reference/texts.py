@@ -12,10 +12,10 @@ class Refusal(Exception):
 
 
 def number_of(word):
-    """A decimal number; any other word is refused."""
+    """A decimal number, if it is a large one only its first digits; any other word is refused."""
     if not word.isdigit():
         raise Refusal(5)
-    return int(word)
+    return int(word.lstrip(b"0")[:30] or b"0")
 
 
 def line_numbers(line):
