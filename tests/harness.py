@@ -11,7 +11,7 @@ HERE = os.path.dirname(os.path.abspath(__file__))
 PROGRAMS = os.path.abspath(os.environ.get("PROGRAMS", os.path.join(HERE, "..", "target", "bin")))
 REFERENCE = os.path.join(HERE, "reference")
 LIMIT = 30  # seconds that a process may take
-SLOW = PROGRAMS == REFERENCE  # then less is tried
+SLOW = PROGRAMS == REFERENCE or "FEW" in os.environ  # then less is tried
 PAUSE = 0.03  # seconds in which nothing may come
 
 folder = tempfile.TemporaryDirectory(prefix="ciderdune-tests-")
