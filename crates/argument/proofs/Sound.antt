@@ -89,11 +89,11 @@ module _ {K : Type 0} {N : Numbers K} (F : Field N) where
       (outputs-reduced (c .layers) (2 ^ c .inputs) (2 ^ c .copies) vs (parts .0)) wrong)
       (λ z row differ.
       let there : length z ≡ first = row-length N first z row in
-      let believed : List K → Bool = believes N (c .copies) (c .layers) (c .inputs) vs (firstClaim N c claimed z) (λ told. f (z ++ told)) in
+      let believed : List K → Bool = believes N (c .copies) (c .layers) (c .inputs) vs (firstClaim N c claimed z) (λ later. f (z ++ later)) in
       le-trans
       (mul-le-mul-right order
       (sumRows-le N later (λ y. indicator (accepts N c vs claimed f (z ++ y))) (λ y. indicator (believed y))
       (λ y r. rw (take-at z y first there, drop-at z y first there) (indicator-second (eqb (length (z ++ y)) (coinsOf c)) (believed y)))))
-      (layers-few F (c .copies) (c .inputs) vs full (c .layers) (firstClaim N c claimed z) (λ told. f (z ++ told)) (parts .1)
+      (layers-few F (c .copies) (c .inputs) vs full (c .layers) (firstClaim N c claimed z) (λ later. f (z ++ later)) (parts .1)
       (length-take-le (c .copies) z (omega arith)) (omega (arith, length-drop (c .copies) z), tt)
       (λ e. equal-false F (mle N claimed z) (mle N (outputs N c vs) z) differ (e ∙ firstClaim-sum c (outputs N c vs) claimed z))))

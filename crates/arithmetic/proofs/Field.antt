@@ -1,4 +1,4 @@
--- A ring in which the roots of a polynomial can be counted: no zero divisors, elements told apart by a test.
+-- A ring in which the roots of a polynomial can be counted: no zero divisors, elements distinguished by a test.
 -- It also has inverses of 2 and 3, so that a cubic is known by its values at 0, 1, 2 and 3.
 use mathlib.Core.Path.{_≡_, refl, sym, ap, _∙_}
 use mathlib.Core.Bool.{Bool, true, false, true≢false}

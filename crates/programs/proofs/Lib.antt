@@ -1,1 +1,2 @@
 mod LowBits
+mod ScanSteps

@@ -1,1 +1,4 @@
 pub mod Dice
+pub mod Judge
+pub mod House
+pub mod Scanning

@@ -1,2 +1,3 @@
 pub mod Multilinear
 pub mod Theorems
+pub mod InPlace

@@ -1,4 +1,6 @@
-// Nothing yet.
-pub fn zero() -> u32 {
-    0
-}
+// Tables of numbers in memory: one variable fixed, the value at a point, and eq at all corners.
+// All of it is done in memory that the caller lends.
+pub mod eq;
+pub mod halving;
+#[cfg(test)]
+mod tests;
