@@ -57,16 +57,16 @@ def random_circuit(rng, copies, inputs, sizes, kind):
 
 
 def fair(rng, count):
-    """Numbers by chance alone: as coins they hide no change."""
+    """Numbers by chance alone: such inputs and coins hide no change."""
     return [rng.randrange(P) for _ in range(count)]
 
 
 @functools.lru_cache(maxsize=None)
-def example(name, more="", coins=numbers):
+def example(name, more="", draw=numbers):
     """An example of the named shape; other words give others of it."""
     rng = generator(name, more)
     circuit = random_circuit(rng, *SHAPES[name])
-    return Example(circuit, numbers(rng, input_count(circuit)), coins(rng, coin_count(circuit)))
+    return Example(circuit, draw(rng, input_count(circuit)), draw(rng, coin_count(circuit)))
 
 
 def random_example(k):

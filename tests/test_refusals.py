@@ -2,7 +2,7 @@
 import itertools
 
 import shapes
-from harness import Process, column, file, folder, line, new_path, prints, require, run, same
+from harness import Process, file, folder, line, new_path, prints, require, run, same
 from protocol import P, words_of
 
 SHAPE = "size 0 in between"
@@ -51,13 +51,15 @@ NO_CIRCUITS = {
        for i in range(7) for n in (LARGE if i in (0, 5) else LARGE[:2])},
 }
 
+TWOS = (line([2] * 16) + "\n") * 2**12
+
 # words, and how many inputs of 1; what is printed
 LIMITS = {
     "32 layers": ([0, 0, 32] + 32 * layer(0, (1, 0, 0)), 1, "1\n"),
     "copies and inputs together 16": ([0, 16, 1] + layer(0), 2**16, "2\n"),
-    "copies and size together 16": ([12, 0, 1] + layer(4), 2**12, ("2 " * 16).strip().join(["", "\n"]) * 2**12),
-    "copies 16": ([16, 0, 1] + layer(0), 2**16, ("2 " * 16).strip().join(["", "\n"]) * 2**12),
-    "size 16": ([0, 0, 1] + layer(16), 1, ("2 " * 16).strip().join(["", "\n"]) * 2**12),
+    "copies and size together 16": ([12, 0, 1] + layer(4), 2**12, TWOS),
+    "copies 16": ([16, 0, 1] + layer(0), 2**16, TWOS),
+    "size 16": ([0, 0, 1] + layer(16), 1, TWOS),
 }
 
 

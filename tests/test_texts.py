@@ -1,6 +1,6 @@
 """Files of numbers: how they may be written, and which words are no numbers."""
 import shapes
-from harness import Process, column, file, line, prints
+from harness import Process, column, file, line, prints, same
 from protocol import words_of
 
 
@@ -84,8 +84,7 @@ def no_numbers(change):
         said = judge.line()
         while said is not None and said.isdigit():
             said = judge.line()
-        if said != "no 5":
-            raise AssertionError(f"judge with this in DICE ends with {said!r}")
+        same(said, "no 5", "judge with this in DICE ends with")
         judge.ends(1)
 
 

@@ -107,5 +107,5 @@ def cases():
     yield "worked example of the programs", worked_example_of_programs
     for name in shapes.SHAPES:
         yield from shape_cases(name, lambda name=name: shapes.example(name))
-    for k in range(8 if SLOW else 40):
+    for k in range(8 if SLOW else 100):
         yield f"all programs on random circuit {k}", lambda k=k: random_shape(k)
