@@ -1,7 +1,7 @@
 """The protocol, written out plainly: both ends of it, for any prime modulus p above 3.
 
-It is written from the protocol's text alone and shares nothing with the programs that it is there to test. Nothing here
-is quick: the prover keeps whole tables over all corners (c, x, y).
+It is written from the protocol's rules and takes no code from the programs that it is there to test. Nothing here is
+quick: the prover keeps whole tables over all corners (c, x, y).
 """
 from collections import namedtuple
 

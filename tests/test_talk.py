@@ -41,12 +41,10 @@ def through_fifos(name):
 
 
 def wrong_output_through_fifos(name):
-    example = shapes.example(name, "talk")
-    wrong = example.outputs[:-1] + [(example.outputs[-1] + 1) % (2**31 - 1)]
+    example = shapes.example(name, "wrong talk", shapes.fair)
+    wrong = example.outputs[:-1] + [(example.outputs[-1] + 1) % protocol.P]
     files = [*example.house_files, file(wrong), example.dice_file]
-    drawn, verdict = protocol.judged(example.circuit, example.inputs, wrong, example.answers, example.coins)
-    statuses = "0 0" if verdict == "believed" else "1 1"
-    same(talk(files), (column(drawn) + verdict + "\n", statuses), "talk")
+    same(talk(files), (example.said(0) + f"not believed, {example.place(0)}\n", "1 1"), "talk")
 
 
 # ---- the coins, one by one
