@@ -1,25 +1,24 @@
 -- The machine's verdict over a whole transcript is 'believed' exactly where the argument's definition accepts.
 -- One lemma over n rounds with any continuation serves for the variables of c, of x and of y.
 use mathlib.Core.Path.{_≡_, refl, sym, _∙_, ap, fun-ext}
-use mathlib.Core.Bool.{Bool, true, false, cond, _&&_, and-assoc}
+use mathlib.Core.Bool.{Bool, _&&_, and-assoc}
 use mathlib.Core.List.{List, [], _∷_, _++_}
-use Prim.Native.Nat.{ℕ, zero, suc, _+_, _-_, _*_, _≤_, _<_}
+use Prim.Native.Nat.{ℕ, zero, suc, _+_, _*_, _≤_}
 use native.Mathlib.Nat.{add-sub-cancel-left}
 use native.Mathlib.Omega.{arith}
-use lib.Dec.{eqb}
 use lib.ListN.{length, take, drop, getD}
 use Rattle.std.proofs.shelf.Lists.{append-nil, append-assoc, take-at, drop-at, length-append, length-push, length-drop, length-take-le}
 use Rattle.std.proofs.shelf.Tests.{eq-eqb}
 use Rattle.arithmetic.specs.Numbers.{Numbers, modulo}
 use Rattle.arithmetic.specs.Cubic.{interpolate}
-use Rattle.circuits.specs.Circuit.{Layer, Circuit, sizeBelow}
+use Rattle.circuits.specs.Circuit.{Layer, sizeBelow}
 use Rattle.argument.specs.Claims.{Claim, shareSum, expected}
-use Rattle.argument.specs.Sumcheck.{Prover, after, wellFormed, nth, rounds}
-use Rattle.argument.specs.Argument.{claimBelow, firstClaim, firstCoins, values, believes, layerCoins, coinsOf, accepts}
+use Rattle.argument.specs.Sumcheck.{Prover, wellFormed, nth, rounds}
+use Rattle.argument.specs.Argument.{claimBelow, firstClaim, firstCoins, values, believes, layerCoins}
 use Rattle.argument.specs.Transcript.{written}
 use Rattle.judging.specs.declared.verdict.Place.the-variants.{Inputs}
 use Rattle.judging.specs.declared.verdict.Verdict.the-variants.{Believed, Stopped}
-use Rattle.judging.specs.Machine.{isBelieved, Stand, standAt, afterVariable, variables, fitsVariable, settled, resume, start, verdict}
+use Rattle.judging.specs.Machine.{Stand, standAt, afterVariable, variables, settled, resume}
 use Rattle.judging.specs.Theorems.{MachineBelieves}
 use Rattle.judging.proofs.Stepping.{said, after-said, believed-cond, goes-on, step-due, step-done}
 

@@ -1,14 +1,14 @@
 -- What an array of noughts holds after some numbers were copied to its start.
 -- The part stands at the start, and all of it is reduced.
-use mathlib.Core.Path.{_≡_, refl, sym, _∙_, ap, subst}
-use mathlib.Core.Bool.{Bool, true, false}
+use mathlib.Core.Path.{_≡_, _∙_, ap}
+use mathlib.Core.Bool.{true}
 use mathlib.Core.List.{List, [], _∷_, _++_}
-use Prim.Native.Nat.{ℕ, zero, suc, _+_, _-_, _<_, _≤_}
+use Prim.Native.Nat.{ℕ, zero, suc, _+_, _<_, _≤_}
 use native.Mathlib.Omega.{arith}
-use lib.Dec.{T, ltb}
-use lib.ListN.{length, take, drop, set, replicate}
+use lib.Dec.{ltb}
+use lib.ListN.{length, take, drop, set}
 use Rattle.std.proofs.shelf.Tests.{lt-ltb, and-parts, and-from}
-use Rattle.std.proofs.shelf.Lists.{take-at, drop-replicate, length-take-le, length-drop}
+use Rattle.std.proofs.shelf.Lists.{take-at, length-take-le, length-drop}
 use Rattle.arithmetic.specs.Numbers.{modulo, allReduced}
 use Rattle.arithmetic.proofs.Truth.{path-of-T, T-of-path}
 use Rattle.tables.proofs.ReducedLists.{reduced-append, reduced-take, reduced-drop}

@@ -3,16 +3,16 @@
 use mathlib.Core.Path.{_≡_, refl, sym, _∙_, ap, ap₂, subst}
 use mathlib.Core.Bool.{Bool, true, false, cond}
 use mathlib.Core.List.{List, [], _∷_, _++_}
-use Prim.Native.Nat.{ℕ, zero, suc, _+_, _-_, _*_, _<_, _≤_}
+use Prim.Native.Nat.{ℕ, zero, suc, _+_, _-_, _*_, _<_}
 use native.Mathlib.Omega.{arith}
 use lib.ListN.{length, take, drop, getD}
-use Rattle.std.proofs.shelf.Lists.{append-assoc, append-nil, take-more, drop-more, take-append-drop, take-all, drop-drop, length-push}
+use Rattle.std.proofs.shelf.Lists.{append-assoc, take-more, drop-more, take-append-drop, take-all, drop-drop, length-push}
 use Rattle.argument.specs.Transcript.{fours}
 use Rattle.judging.specs.declared.verdict.Verdict.{Verdict}
-use Rattle.judging.specs.Driving.{Leads, Ends, AtVariable, Below, layerAnswers}
-use Rattle.judging.specs.Machine.{Stand, variablesOf, afterVariable, fits, next, doubt, resume}
+use Rattle.judging.specs.Driving.{Leads, Ends, AtVariable}
+use Rattle.judging.specs.Machine.{Stand, variablesOf, fits, next, doubt, resume}
 use Rattle.judging.specs.Meaning.{numbers}
-use Rattle.judging.proofs.Stepping.{Due, Done, next-due, next-done}
+use Rattle.judging.proofs.Stepping.{Due, Done, next-due}
 
 -- ---- answers of four words each
 pub fours-split : (n i : ℕ) (ws : List ℕ) → i < n →

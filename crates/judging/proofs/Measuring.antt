@@ -1,6 +1,6 @@
 -- Counting the words and coins of a circuit's layers, one layer after the other.
 -- No layer has more than 32 variables, so that the counts stay small.
-use mathlib.Core.Path.{_≡_, refl, sym, _∙_, ap}
+use mathlib.Core.Path.{_≡_, ap}
 use Prim.Native.Nat.{ℕ, _+_, _*_, _<_, _≤_}
 use native.Mathlib.Omega.{arith}
 use lib.ListN.{length, drop, length-drop}

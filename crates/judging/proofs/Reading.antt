@@ -1,9 +1,9 @@
 -- Numbers that are said: that they are well formed, and what follows for each of them.
 -- And a verifier's point, which has as many coordinates as coins were drawn.
-use mathlib.Core.Path.{_≡_, refl, sym, _∙_, ap, subst}
-use mathlib.Core.Bool.{Bool, true, false, _&&_}
+use mathlib.Core.Path.{_≡_, refl, sym, subst}
+use mathlib.Core.Bool.{Bool, true}
 use mathlib.Core.List.{List, [], _∷_}
-use Prim.Native.Nat.{ℕ, zero, suc, _<_, _≤_}
+use Prim.Native.Nat.{ℕ, _<_}
 use native.Mathlib.Omega.{arith}
 use lib.Dec.{eqb}
 use lib.ListN.{length, getD, length-take}
@@ -19,7 +19,6 @@ use Rattle.circuits.specs.Refusals.{RefusedUnless}
 use Rattle.circuits.specs.Words.{modulus}
 use Rattle.argument.specs.Sumcheck.{wellFormed}
 use Rattle.judging.specs.declared.verifier.Verifier.{Verifier}
-use Rattle.judging.specs.Machine.{variablesOf}
 use Rattle.judging.specs.Meaning.{numbers, standOf}
 use Rattle.judging.proofs.Limits.{variables-limit}
 

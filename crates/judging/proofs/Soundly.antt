@@ -11,10 +11,10 @@ use lib.Dec.{T, eqb, leb, lit<}
 use lib.ListN.{length, take, drop, getD}
 use Rattle.std.proofs.shelf.Lists.{take-take, drop-take, drop-drop, length-take-le, getD-append-left, getD-append-right, getD-at}
 use Rattle.std.proofs.shelf.Tests.{le-leb, lt-leb, cond-true, cond-false, cases-order}
-use Rattle.arithmetic.specs.Numbers.{Whole, modulo, allReduced}
-use Rattle.arithmetic.specs.Counting.{indicator, countRows}
-use Rattle.arithmetic.proofs.Counting.{Row, row-length, sumRows-le}
-use Rattle.arithmetic.proofs.Truth.{and-right, T-of-path, path-of-T}
+use Rattle.arithmetic.specs.Numbers.{modulo, allReduced}
+use Rattle.arithmetic.specs.Counting.{indicator}
+use Rattle.arithmetic.proofs.Counting.{sumRows-le}
+use Rattle.arithmetic.proofs.Truth.{and-right}
 use Rattle.circuits.specs.Circuit.{Layer, Circuit, sizeBelow, outputSize, lawful}
 use Rattle.circuits.specs.Words.{modulus, word, circuitOf, shaped, isCircuit}
 use Rattle.argument.specs.Sumcheck.{Prover}

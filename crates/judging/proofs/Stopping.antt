@@ -1,6 +1,6 @@
 -- The machine stops at the first answer that does not fit, or at the inputs where all fit.
 -- By induction over the coins, each step being one answer and its coin.
-use mathlib.Core.Path.{_≡_, refl, sym, _∙_, ap, subst}
+use mathlib.Core.Path.{_≡_, refl, sym, ap, subst}
 use mathlib.Core.Bool.{Bool, true, false, cond}
 use mathlib.Core.List.{List, [], _∷_}
 use mathlib.Core.Logic.{_⊎_, inl, inr}
@@ -9,7 +9,6 @@ use native.Mathlib.Omega.{arith}
 use lib.Dec.{T}
 use lib.ListN.{length, take, drop, getD}
 use Rattle.arithmetic.specs.Numbers.{Numbers, modulo}
-use Rattle.circuits.specs.Circuit.{Circuit}
 use Rattle.argument.specs.Argument.{firstCoins}
 use Rattle.judging.specs.declared.verdict.Verdict.{Verdict}
 use Rattle.judging.specs.Machine.{Stand, doubt, fits, next, settled, resume, start, standAfter}

@@ -2,10 +2,9 @@
 -- Fixing them is the beginning of a halving at each share's whole point.
 use mathlib.Core.Path.{_≡_, refl, sym, _∙_, ap, ap₂, subst}
 use mathlib.Core.List.{List, [], _∷_, _++_}
-use Prim.Native.Nat.{ℕ, zero, suc, _+_, _-_, _*_, _/_, _%_, _^_, _<_, _≤_}
+use Prim.Native.Nat.{ℕ, _+_, _-_, _*_, _/_, _%_, _^_, _<_, _≤_}
 use native.Mathlib.Nat.{mod-lt}
 use native.Mathlib.Omega.{arith}
-use denote.Ref.{now}
 use lib.Dec.{T}
 use lib.ListN.{length, take, drop, getD, length-append}
 use Rattle.std.proofs.shelf.Lists.{drop-at, getD-append-left}

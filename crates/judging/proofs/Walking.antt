@@ -8,8 +8,8 @@ use native.Mathlib.Omega.{arith}
 use lib.Dec.{eqb}
 use lib.ListN.{length, take, drop, getD, length-drop}
 use Rattle.std.proofs.shelf.Tests.{eqb-true, false≢true}
-use Rattle.std.proofs.shelf.Lists.{append-assoc, append-nil, take-take, take-more, take-all, take-append-drop, drop-take, drop-drop, length-take-le, nil-from-length}
-use Rattle.circuits.specs.Circuit.{Layer, sizeBelow}
+use Rattle.std.proofs.shelf.Lists.{append-assoc, take-take, take-more, take-all, take-append-drop, drop-take, drop-drop, length-take-le, nil-from-length}
+use Rattle.circuits.specs.Circuit.{Layer}
 use Rattle.argument.specs.Argument.{layerCoins}
 use Rattle.argument.specs.Transcript.{fours, answersOf, layerWords}
 use Rattle.judging.specs.declared.verdict.Verdict.{Verdict}

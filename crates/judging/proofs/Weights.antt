@@ -3,13 +3,13 @@
 use mathlib.Core.Path.{_≡_, refl, sym, _∙_, ap, ap₂}
 use mathlib.Core.Bool.{Bool, true, false, cond, _&&_}
 use mathlib.Core.List.{List, [], _∷_}
-use Prim.Native.Nat.{ℕ, zero, suc, _+_, _<_, _≤_, _^_}
+use Prim.Native.Nat.{ℕ, _+_, _<_, _≤_}
 use native.Mathlib.Omega.{arith}
 use lib.Dec.{T, ltb, ltb→lt}
 use lib.ListN.{length}
 use Rattle.arithmetic.specs.Numbers.{Numbers}
 use Rattle.arithmetic.proofs.Ring.{Ring}
-use Rattle.arithmetic.proofs.Solver.{Exp, var, con, _:+_, _:*_, solve}
+use Rattle.arithmetic.proofs.Solver.{var, con, _:+_, _:*_, solve}
 use Rattle.arithmetic.proofs.Truth.{and-left, and-right}
 use Rattle.tables.specs.Multilinear.{eqPoly, bitsOf}
 use Rattle.circuits.specs.Circuit.{Kind, Gate, Layer, gatesFit}

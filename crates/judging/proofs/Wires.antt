@@ -1,11 +1,10 @@
 -- From what the loop over the gates gathers to the wiring of the argument's definition.
 -- The tables hold eq at each place, and the weights are those of all shares together.
-use mathlib.Core.Path.{_≡_, refl, sym, _∙_, ap}
+use mathlib.Core.Path.{_≡_, refl, _∙_, ap}
 use mathlib.Core.Bool.{true}
 use mathlib.Core.List.{List}
-use Prim.Native.Nat.{ℕ, _+_, _^_, _<_, _≤_}
+use Prim.Native.Nat.{ℕ, _^_, _<_}
 use native.Mathlib.Omega.{arith}
-use lib.Dec.{T}
 use lib.ListN.{length, getD}
 use Rattle.arithmetic.specs.Numbers.{modulo}
 use Rattle.arithmetic.proofs.Modulo.{ringModulo}
@@ -17,7 +16,7 @@ use Rattle.circuits.specs.Circuit.{Kind, sum, product, Gate, Layer, gatesFit}
 use Rattle.argument.specs.Claims.{Share, sharedWiring}
 use Rattle.judging.specs.declared.wiring.Wiring.{Wiring}
 use Rattle.judging.specs.Gathered.{wiringFrom, wiringAt, Gathered, Wired}
-use Rattle.judging.specs.Sums.{weightedWiring, shareWeight}
+use Rattle.judging.specs.Sums.{shareWeight}
 use Rattle.judging.proofs.Weights.{weighted-same, weighted-shares}
 
 module _ (p : ℕ) (several : 1 < p) where

@@ -1,13 +1,13 @@
 -- The worked examples, by computing.
 -- Where any coins may fall, the first answer is tested before the first of them counts.
 use mathlib.Core.Path.{_≡_, refl}
-use mathlib.Core.Bool.{Bool, true, false, cond, not, _&&_}
+use mathlib.Core.Bool.{Bool, true, false}
 use mathlib.Core.List.{List, [], _∷_}
 use Prim.Native.Nat.{ℕ}
 use lib.Dec.{eqb}
 use lib.ListN.{length}
 use Rattle.std.proofs.shelf.Tests.{and-right}
-use Rattle.arithmetic.specs.Numbers.{modulo, allReduced}
+use Rattle.arithmetic.specs.Numbers.{allReduced}
 use Rattle.arithmetic.specs.Cubic.{interpolate, newton, differences}
 use Rattle.tables.specs.Multilinear.{mle, blend, eqPoly, bitsOf, sumCorners}
 use Rattle.circuits.specs.Circuit.{product, Gate, Layer, gatesFit, layersFit, gateValues, copyValues, allValues, outputs}

@@ -1,7 +1,7 @@
 -- The worked examples, as one table.
 -- A cubic, a table of four numbers, and the product of 3 and 5 argued with the coins 2, 4 and 3, all modulo 31; then words.
 use mathlib.Core.Path.{_≡_}
-use mathlib.Core.Bool.{Bool, true, false}
+use mathlib.Core.Bool.{true, false}
 use mathlib.Core.List.{List, [], _∷_}
 use Prim.Native.Nat.{ℕ}
 use lib.ListN.{length}

@@ -11,7 +11,6 @@ use Rattle.circuits.specs.Circuit.{Layer, Circuit, sizeBelow}
 use Rattle.argument.specs.Claims.{Claim, shareSum, expected}
 use Rattle.argument.specs.Sumcheck.{wellFormed, nth}
 use Rattle.argument.specs.Argument.{claimBelow, firstClaim, firstCoins}
-use Rattle.judging.specs.declared.verdict.Place.{Place}
 use Rattle.judging.specs.declared.verdict.Place.the-variants.{Variable, Values, Inputs}
 use Rattle.judging.specs.declared.verdict.Verdict.{Verdict}
 use Rattle.judging.specs.declared.verdict.Verdict.the-variants.{Believed, Stopped}

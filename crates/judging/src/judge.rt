@@ -1,7 +1,6 @@
 // The call that judges a whole transcript: 0 for believed, or the first number of 1 to 4 that applies.
 // It drives the same verifier that goes step by step where answers and coins come one by one.
 ghost use mathlib.Core.Path.{_≡_};
-ghost use lib.ListN.{length};
 ghost use Rattle.std.specs.Results.{Cases};
 ghost use Rattle.circuits.specs.Refusals.{answerOf};
 ghost use Rattle.circuits.specs.Refusals.{numberOf as refusalNumber};

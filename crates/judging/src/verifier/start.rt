@@ -5,7 +5,6 @@ ghost use mathlib.Core.Path.{_≡_};
 ghost use Prim.Native.Nat.{_+_, _^_};
 ghost use lib.ListN.{length};
 ghost use Rattle.arithmetic.specs.Numbers.{allReduced};
-ghost use Rattle.circuits.specs.Circuit.{outputSize};
 ghost use Rattle.circuits.specs.Views.{circuitSeen};
 ghost use Rattle.argument.specs.Argument.{firstCoins};
 ghost use Rattle.judging.specs.Machine.{start};

@@ -1,12 +1,11 @@
 -- The part is copied to the start of an array of noughts.
 use mathlib.Core.Path.{_≡_, refl, sym, _∙_, ap, subst}
-use mathlib.Core.Bool.{Bool, true}
+use mathlib.Core.Bool.{true}
 use mathlib.Core.List.{List}
-use Prim.Native.Nat.{ℕ, _+_, _-_, _≤_}
+use Prim.Native.Nat.{ℕ, _+_, _-_}
 use native.Mathlib.Omega.{arith}
-use borrow.Author.Needs.{needs}
 use borrow.Rule.Slice.PartMut.{postOf}
-use lib.ListN.{length, take, drop, replicate}
+use lib.ListN.{take, drop, replicate}
 use Rattle.arithmetic.specs.Numbers.{modulo, allReduced}
 use Rattle.circuits.specs.Words.{modulus}
 use Rattle.judging.proofs.Cutting.{reduced-part, reduced-rest, reduced-both, front-is}

@@ -1,8 +1,7 @@
 -- The first coins choose the outputs' point, and the verifier hears the rest.
-use mathlib.Core.Path.{_≡_, refl, sym, _∙_, ap, ap₂}
-use mathlib.Core.Bool.{true}
+use mathlib.Core.Path.{_≡_, sym, _∙_, ap}
 use mathlib.Core.List.{List}
-use Prim.Native.Nat.{ℕ, _+_, _-_, _^_, _≤_}
+use Prim.Native.Nat.{ℕ, _-_}
 use native.Mathlib.Omega.{arith}
 use denote.Ref.{now}
 use lib.ListN.{length, take, drop, length-drop}
@@ -10,7 +9,7 @@ use Rattle.std.proofs.shelf.Lists.{length-take-le, take-rest}
 use Rattle.std.proofs.shelf.Tests.{eqb-true}
 use Rattle.circuits.specs.Views.{wordsSeen, circuitSeen}
 use Rattle.circuits.specs.Words.{modulus}
-use Rattle.argument.specs.Argument.{firstCoins, layerCoins}
+use Rattle.argument.specs.Argument.{firstCoins}
 use Rattle.judging.specs.Driving.{answersFrom, wordsFrom, coinsFrom}
 use Rattle.judging.specs.Machine.{Stand, start, resume}
 use Rattle.judging.specs.Meaning.{numbers, standOf, inputsOf}

@@ -6,7 +6,7 @@ use native.Mathlib.Omega.{arith}
 use lib.ListN.{length, take, drop}
 use Rattle.std.proofs.shelf.Lists.{length-append, length-drop, length-take-le}
 use Rattle.arithmetic.proofs.Newton.{reduced-at}
-use Rattle.judging.proofs.Summing.{Fixing, fixing-none, fixing-more, fixing-all}
+use Rattle.judging.proofs.Summing.{fixing-none, fixing-more, fixing-all}
 use Rattle.tables.proofs.ReducedLists.{reduced-take, reduced-append, reduced-drop}
 use Rattle.judging.proofs.sums.fix_variables.Needs as need
 

@@ -1,7 +1,7 @@
 -- What is left after the copies' variables are fixed leads to the value at each share's whole point.
-use mathlib.Core.Path.{_≡_, sym, _∙_, ap, subst}
+use mathlib.Core.Path.{_≡_, sym, _∙_, ap}
 use mathlib.Core.List.{List, _++_}
-use Prim.Native.Nat.{ℕ, _+_, _-_, _^_, _<_, _≤_}
+use Prim.Native.Nat.{ℕ, _+_, _-_, _^_}
 use native.Mathlib.Omega.{arith}
 use denote.Ref.{now}
 use lib.ListN.{length, take}
@@ -11,7 +11,6 @@ use Rattle.std.specs.declared.option.Option.the-variants.{Some, None}
 use Rattle.arithmetic.specs.Numbers.{modulo}
 use Rattle.tables.specs.Multilinear.{mle}
 use Rattle.tables.proofs.ReducedLists.{reduced-take}
-use Rattle.argument.specs.Claims.{shareSum}
 use Rattle.judging.specs.declared.share.ShareView.{ShareView}
 use Rattle.judging.specs.Shares.{SecondFits, secondSeen, sharesSeen}
 use Rattle.judging.proofs.Summing.{SameSize, sum-fixed}

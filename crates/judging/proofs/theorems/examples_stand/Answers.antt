@@ -1,3 +1,4 @@
+-- The theorem is proved among the lemmas.
 use Rattle.judging.proofs.Worked.{examples}
 use Rattle.judging.proofs.theorems.examples_stand.Needs as need
 

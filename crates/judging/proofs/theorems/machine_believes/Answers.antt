@@ -1,3 +1,4 @@
+-- The theorem is proved among the lemmas.
 use Rattle.judging.proofs.Bridge.{machine-believes}
 use Rattle.judging.proofs.theorems.machine_believes.Needs as need
 

@@ -1,3 +1,4 @@
+-- The theorem is proved among the lemmas.
 use Rattle.judging.proofs.Stopping.{stops-first}
 use Rattle.judging.proofs.theorems.stops_first.Needs as need
 

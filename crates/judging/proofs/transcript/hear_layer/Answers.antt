@@ -1,15 +1,13 @@
 -- The layer's variables, and then the two values, each at its place among the words.
-use mathlib.Core.Path.{_≡_, refl, sym, _∙_, ap}
-use mathlib.Core.List.{List}
-use Prim.Native.Nat.{ℕ, _+_, _-_, _*_, _<_, _≤_}
+use mathlib.Core.Path.{_≡_, _∙_, ap}
+use Prim.Native.Nat.{ℕ, _+_, _-_, _*_}
 use native.Mathlib.Omega.{arith}
-use lib.ListN.{length, take, drop, getD, length-take}
+use lib.ListN.{length, take, drop}
 use Rattle.std.proofs.shelf.Lists.{length-take-le}
 use Rattle.std.proofs.shelf.Results.{err-from-errBy, cases-weaker}
 use Rattle.arithmetic.proofs.Newton.{reduced-at}
 use Rattle.arithmetic.proofs.Truth.{T-of-path}
 use Rattle.circuits.specs.Words.{modulus}
-use Rattle.judging.specs.Machine.{variablesOf}
 use Rattle.judging.specs.Meaning.{standOf, inputsOf}
 use Rattle.judging.proofs.Cutting.{reduced-part}
 use Rattle.judging.proofs.Walking.{layer-leads, layer-ends-late, layer-ends-early}

@@ -1,7 +1,7 @@
 -- Each turn hears one layer more, whose words and coins are there.
 use mathlib.Core.Path.{_≡_, _∙_, ap, subst}
 use mathlib.Core.List.{List}
-use Prim.Native.Nat.{ℕ, _+_, _-_, _*_, _<_, _≤_}
+use Prim.Native.Nat.{ℕ, _+_, _-_, _*_, _≤_}
 use native.Mathlib.Omega.{arith}
 use borrow.Author.Needs.{needs}
 use lib.ListN.{length, take, drop}
@@ -9,7 +9,7 @@ use Rattle.std.proofs.shelf.Results.{err-from-errBy}
 use Rattle.circuits.specs.Words.{modulus}
 use Rattle.judging.specs.Driving.{Leads, Ends, layerAnswers}
 use Rattle.judging.specs.Machine.{variablesOf}
-use Rattle.judging.specs.Meaning.{standOf, inputsOf}
+use Rattle.judging.specs.Meaning.{standOf}
 use Rattle.judging.proofs.Cutting.{reduced-part}
 use Rattle.judging.proofs.PointParts.{part-length}
 use Rattle.judging.proofs.Walking.{layers-left, no-layers-left, walking-room, walking-more, walking-ends, walking-all}

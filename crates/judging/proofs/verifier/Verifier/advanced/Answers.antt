@@ -1,10 +1,10 @@
 -- One coin more stands at the end of the point.
-use Prim.Native.Nat.{ℕ, _+_, _-_, _<_, _≤_}
+use Prim.Native.Nat.{ℕ, _+_, _<_, _≤_}
 use mathlib.Core.List.{List}
 use mathlib.Core.Path.{_≡_, refl, ap}
 use native.Mathlib.Omega.{arith}
 use borrow.Author.Needs.{needs}
-use lib.ListN.{length, take, length-take}
+use lib.ListN.{length, length-take}
 use Rattle.std.proofs.shelf.Lists.{take-more-set}
 use Rattle.circuits.specs.Words.{modulus}
 use Rattle.judging.specs.declared.verifier.Verifier.{Verifier}

@@ -1,14 +1,12 @@
 -- The claim's point among the copies, and the first part of the coins' point.
-use mathlib.Core.Path.{_≡_, sym, _∙_, ap, ap₂}
-use mathlib.Core.List.{List}
-use Prim.Native.Nat.{ℕ, _+_, _-_, _≤_}
+use mathlib.Core.Path.{_≡_, sym, _∙_, ap}
+use Prim.Native.Nat.{ℕ, _-_}
 use native.Mathlib.Omega.{arith}
 use borrow.Author.Needs.{needs}
 use lib.ListN.{length, take}
 use Rattle.tables.specs.Multilinear.{eqPoly}
 use Rattle.circuits.proofs.Parts.{layers-parts}
 use Rattle.judging.specs.Meaning.{numbers, standOf}
-use Rattle.judging.specs.Machine.{pointC}
 use Rattle.judging.proofs.PointParts.{part-c, part-reduced, part-length}
 use Rattle.judging.proofs.verifier.Verifier.at_copy.Needs as need
 

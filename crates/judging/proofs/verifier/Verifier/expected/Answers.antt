@@ -1,5 +1,5 @@
 -- The layer is the first of those that are left.
-use mathlib.Core.Path.{_≡_, sym, _∙_, ap}
+use mathlib.Core.Path.{_≡_, sym, _∙_}
 use Prim.Native.Nat.{ℕ, _+_, _*_, _%_}
 use Rattle.circuits.specs.Words.{modulus}
 use Rattle.judging.specs.Machine.{sizeUnder, pointC, pointX, pointY}

@@ -1,5 +1,5 @@
 -- What fits is what fits a variable, or the two values, by what is due.
-use mathlib.Core.Path.{_≡_, _∙_}
+use mathlib.Core.Path.{_∙_}
 use Rattle.std.proofs.shelf.Results.{cases-weaker}
 use Rattle.judging.specs.Meaning.{numbers, standOf}
 use Rattle.judging.proofs.Stepping.{Due, Done, due-is, done-is, fits-due, fits-done}

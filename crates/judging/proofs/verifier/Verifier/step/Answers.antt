@@ -1,8 +1,8 @@
 -- Four numbers are a variable's, and two are the values; each leads where the machine goes.
-use mathlib.Core.Path.{_≡_, sym, _∙_, ap, ap₂, subst}
+use mathlib.Core.Path.{_≡_, sym, _∙_, ap, ap₂}
 use mathlib.Core.Bool.{true}
 use mathlib.Core.List.{List}
-use Prim.Native.Nat.{ℕ, _+_, _<_}
+use Prim.Native.Nat.{ℕ, _+_}
 use native.Mathlib.Omega.{arith}
 use borrow.Author.Needs.{needs}
 use lib.ListN.{length, drop, getD}
@@ -13,7 +13,7 @@ use Rattle.argument.specs.Argument.{claimBelow}
 use Rattle.argument.specs.Claims.{Claim}
 use Rattle.circuits.specs.Words.{modulus}
 use Rattle.judging.specs.Answers.{numbersSeen, coinAnswer, coinWord}
-use Rattle.judging.specs.Machine.{Stand, afterVariable, standAt, pointC, pointX, pointY, fits}
+use Rattle.judging.specs.Machine.{afterVariable, standAt, pointC, pointX, pointY, fits}
 use Rattle.judging.specs.Meaning.{numbers, standOf}
 use Rattle.judging.proofs.Stepping.{four-due, two-done, next-due, next-done}
 use Rattle.judging.proofs.verifier.Verifier.step.Needs as need

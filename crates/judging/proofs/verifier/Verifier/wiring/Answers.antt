@@ -1,7 +1,7 @@
 -- The parts of the array are those of the point, and the views of the shares are cut to the layer's size.
-use mathlib.Core.Path.{_≡_, refl, sym, _∙_, ap, ap₂, subst}
+use mathlib.Core.Path.{_≡_, sym, _∙_, ap, ap₂, subst}
 use mathlib.Core.List.{List, _∷_}
-use Prim.Native.Nat.{ℕ, _+_, _-_, _*_, _<_, _≤_}
+use Prim.Native.Nat.{ℕ, _+_, _-_, _≤_}
 use native.Mathlib.Omega.{arith}
 use borrow.Author.Needs.{needs}
 use lib.ListN.{length, take, drop, getD}
@@ -10,7 +10,7 @@ use Rattle.circuits.specs.Views.{layerSeen, noLayer, sizeSeen, placesBelow}
 use Rattle.circuits.specs.Words.{modulus}
 use Rattle.argument.specs.Claims.{Share, sharedWiring}
 use Rattle.judging.specs.Machine.{sizeUnder, pointX, pointY}
-use Rattle.judging.specs.Meaning.{numbers, standOf, shareMeant, others, sharesMeant}
+use Rattle.judging.specs.Meaning.{numbers, standOf, shareMeant, others}
 use Rattle.judging.specs.Shares.{sharesSeen, ShareFits, SecondFits}
 use Rattle.judging.proofs.PointParts.{top-size, all-drawn, part-x, part-y, part-reduced, part-length}
 use Rattle.judging.proofs.verifier.Verifier.wiring.Needs as need

@@ -1,12 +1,12 @@
 -- With the weights of all shares the gathered wiring is that of the claim.
-use mathlib.Core.Path.{_≡_, sym, _∙_, ap, subst}
+use mathlib.Core.Path.{_≡_, _∙_, subst}
 use Prim.Native.Nat.{ℕ, _^_, _<_}
 use native.Mathlib.Omega.{arith}
 use denote.Ref.{now}
-use lib.ListN.{length, getD}
+use lib.ListN.{getD}
 use Rattle.arithmetic.specs.Numbers.{modulo}
-use Rattle.circuits.specs.Circuit.{Kind, sum, product}
-use Rattle.circuits.specs.Views.{gatesSeen, layerSeen}
+use Rattle.circuits.specs.Circuit.{sum, product}
+use Rattle.circuits.specs.Views.{layerSeen}
 use Rattle.circuits.proofs.Parts.{layer-parts}
 use Rattle.circuits.proofs.Steps.{length-gatesOf}
 use Rattle.judging.specs.Shares.{sharesSeen}

@@ -1,11 +1,11 @@
 -- Each turn adds at one place more.
 use Prim.Native.Nat.{_<_}
-use mathlib.Core.Path.{_≡_, subst, sym}
+use mathlib.Core.Path.{subst, sym}
 use Prim.Native.Nat.{ℕ}
 use native.Mathlib.Omega.{arith}
-use lib.ListN.{length, getD}
+use lib.ListN.{length}
 use Rattle.arithmetic.proofs.Newton.{reduced-at}
-use Rattle.judging.proofs.Adding.{Added, added-none, added-more, added-reduced}
+use Rattle.judging.proofs.Adding.{added-none, added-more, added-reduced}
 use Rattle.judging.proofs.wiring.weights.add_tables.Needs as need
 
 pub loop-i-holds : need.loop-i-holds

@@ -1,9 +1,4 @@
 -- The first i places have the sums, the others are as they were, and all are reduced.
-use mathlib.Core.Path.{_≡_}
-use Prim.Native.Nat.{ℕ, _+_, _%_, _<_, _≤_}
-use lib.Dec.{T}
-use lib.ListN.{length, getD}
-use Rattle.arithmetic.specs.Numbers.{modulo, allReduced}
 use Rattle.judging.proofs.Adding.{Added}
 use Rattle.judging.proofs.wiring.weights.add_tables.Given as given
 

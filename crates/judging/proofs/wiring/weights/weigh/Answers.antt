@@ -1,18 +1,16 @@
 -- The first share's table fills the weights, and a second one's is added.
 use mathlib.Core.Path.{_≡_, sym, _∙_, ap, subst}
-use mathlib.Core.List.{List, [], _∷_}
+use mathlib.Core.List.{List}
 use Prim.Native.Nat.{ℕ, _+_, _*_, _%_, _^_, _<_, _≤_}
 use native.Mathlib.Omega.{arith}
 use borrow.Author.Needs.{needs}
 use denote.Ref.{now}
 use lib.Dec.{T}
 use lib.ListN.{length, getD}
-use Rattle.std.specs.declared.option.Option.{Option}
 use Rattle.arithmetic.specs.Numbers.{modulo, allReduced}
 use Rattle.tables.specs.InPlace.{scaledEqTable}
 use Rattle.tables.specs.Multilinear.{eqPoly, bitsOf}
 use Rattle.tables.proofs.EqSteps.{scaled-length, scaled-at}
-use Rattle.judging.specs.declared.share.ShareView.{ShareView}
 use Rattle.judging.specs.Shares.{shareSeen, secondSeen, ShareFits, SecondFits}
 use Rattle.judging.proofs.Adding.{filled, pow-at-most, weight-of-one, weight-of-two}
 use Rattle.judging.proofs.wiring.weights.weigh.Needs as need
