@@ -13,3 +13,4 @@ pub mod Roots
 pub mod Interpolation
 pub mod Agreement
 pub mod Theorems
+pub mod WholeMersenne

@@ -35,6 +35,10 @@ AgreeAtMostThrice =
     T (allReduced (modulo p) ys) → T (allReduced (modulo p) zs) → ys ≢ zs →
     countNumbers (modulo p) (λ x. eqb (interpolate (modulo p) ys x) (interpolate (modulo p) zs x)) ≤ 3
 
+-- The modulus of the programs, 2^31 - 1, is whole.
+abbrev pub WholeMersenne31 : Type 0
+WholeMersenne31 = Whole 2147483647
+
 -- The squares 1, 4, 9, 16 go on with 25, and modulo 31 the square of 31 is 0.
 abbrev pub ExampleModulo31 : Type 0
 ExampleModulo31 =

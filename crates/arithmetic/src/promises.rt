@@ -1,6 +1,6 @@
 // What is proved of cubics given by four values, for every whole modulus above 3.
 // Each function's contract is the theorem that it names; there is nothing to compute.
-ghost use Rattle.arithmetic.specs.Theorems.{ThroughItsValues, ExactForCubics, AgreeAtMostThrice, ExampleModulo31};
+ghost use Rattle.arithmetic.specs.Theorems.{ThroughItsValues, ExactForCubics, AgreeAtMostThrice, WholeMersenne31, ExampleModulo31};
 
 // The polynomial takes its four values at 0, 1, 2 and 3, and is every cubic's own; two different ones agree at most at
 // three places.
@@ -8,6 +8,13 @@ pub fn cubics_stand() -> u8
     ensures through { λ _. ⌜ ThroughItsValues ⌝ }
     ensures exact { λ _. ⌜ ExactForCubics ⌝ }
     ensures thrice { λ _. ⌜ AgreeAtMostThrice ⌝ }
+{
+    0
+}
+
+// 2^31 - 1 is whole, so that all that is promised for whole moduli holds of it.
+pub fn mersenne_stands() -> u8
+    ensures { λ _. ⌜ WholeMersenne31 ⌝ }
 {
     0
 }

@@ -1,19 +1,20 @@
 -- What the tests on words say of them, in parts: of a circuit, of layers from one of them down, and of a layer.
 -- With them, what the parts of a lawful circuit are again.
 use mathlib.Core.Path.{_≡_, refl, sym, ap, ap₂, _∙_}
-use mathlib.Core.Bool.{Bool, true, _&&_}
+use mathlib.Core.Bool.{true, _&&_}
 use mathlib.Core.List.{List, [], _∷_}
 use Prim.Native.Nat.{ℕ, zero, suc, _+_, _-_, _*_, _^_, _≤_, _<_}
-use native.Mathlib.Nat.{add-zero, sub-zero}
+use native.Mathlib.Nat.{sub-zero}
 use native.Mathlib.Omega.{arith}
 use lib.Dec.{eqb, leb, ltb}
 use lib.ListN.{length, take, drop, getD}
-use Rattle.std.proofs.shelf.Lists.{drop-drop, getD-drop}
+use Rattle.std.proofs.shelf.Lists.{drop-more, getD-drop}
 use Rattle.std.proofs.shelf.Tests.{leb-true, le-leb, ltb-true, eqb-true, eq-eqb, and-parts, and-from}
-use Rattle.circuits.specs.Circuit.{Gate, Layer, gatesFit, layersFit, sizeBelow, lawful}
-use Rattle.circuits.specs.Words.{word, kindOf, gatesOf, layersOf, shaped, circuitOf, isCircuit}
+use Rattle.circuits.specs.Circuit.{Gate, Layer, gatesFit, layersFit, sizeBelow}
+use Rattle.circuits.specs.Words.{word, gatesOf, layersOf, shaped, isCircuit}
 use Rattle.circuits.specs.Parts.{areLayers, isLayer, layerLength, gateAt}
-use Rattle.circuits.proofs.Steps.{Starts, shaped-starts, layers-more, gates-front, length-gatesOf, length-layersOf}
+use Rattle.circuits.specs.Views.{noLayer}
+use Rattle.circuits.proofs.Steps.{layers-more, gates-front, length-layersOf}
 
 pub record LayersParts (copies inputs n : ℕ) (ws : List ℕ) : Type 0 where
   pub limit : copies + inputs ≤ 16
@@ -182,3 +183,7 @@ circuit-by ws l m b c d =
     let e5 : leb (word ws 2) 32 ≡ true = le-leb (word ws 2) 32 d in
     let e6 : leb 1 (length (layersOf (word ws 2) (drop 3 ws))) ≡ true = ap (leb 1) (length-layersOf (word ws 2) (drop 3 ws)) ∙ e4 in
     rw (e1, e2, e3, e4, e5, e6)
+
+-- what `first` and `rest` of some layers show together
+pub parted : (ls rest : List Layer) (l : Layer) → 0 < length ls → l ≡ getD ls 0 noLayer → rest ≡ drop 1 ls → ls ≡ l ∷ rest
+parted ls rest l some e f = drop-more ls 0 noLayer some ∙ ap₂ (λ x y. x ∷ y) (sym e) (sym f)

@@ -2,7 +2,7 @@
 -- Each says what a definition of the specs gives from one place on by what it gives from the next.
 use mathlib.Core.Path.{_≡_, refl, sym, ap, ap₂, _∙_}
 use mathlib.Core.Bool.{Bool, true, false, _&&_}
-use mathlib.Core.List.{List, [], _∷_}
+use mathlib.Core.List.{List}
 use Prim.Native.Nat.{ℕ, zero, suc, _+_, _-_, _*_, _^_, _≤_, _<_}
 use native.Mathlib.Nat.{add-zero, sub-zero}
 use native.Mathlib.Omega.{arith}
@@ -31,15 +31,15 @@ kinds-more n i ws h =
     let g : getD (drop (3 * i) ws) 0 0 ≡ getD ws (3 * i) 0 = at-gate ws i 0 ∙ ap (λ k. getD ws k 0) (add-zero (3 * i)) in
     ap (λ k. kindsKnown k (drop (3 * i) ws)) e ∙ ap₂ (λ a b. ltb a 2 && kindsKnown (n - (i + 1)) b) g (next-gate ws i)
 
-pub kinds-on : (n i : ℕ) (ws : List ℕ) → i < n → getD ws (3 * i) 0 ≤ 1 → kindsKnown (n - i) (drop (3 * i) ws) ≡ kindsKnown (n - (i + 1)) (drop (3 * (i + 1)) ws)
+pub kinds-on : (n i : ℕ) (ws : List ℕ) → i < n → ltb (getD ws (3 * i) 0) 2 ≡ true → kindsKnown (n - i) (drop (3 * i) ws) ≡ kindsKnown (n - (i + 1)) (drop (3 * (i + 1)) ws)
 kinds-on n i ws h k =
     kinds-more n i ws h
-    ∙ ap (λ b. b && kindsKnown (n - (i + 1)) (drop (3 * (i + 1)) ws)) (lt-ltb (getD ws (3 * i) 0) 2 (omega arith))
+    ∙ ap (λ b. b && kindsKnown (n - (i + 1)) (drop (3 * (i + 1)) ws)) k
 
-pub kinds-off : (n i : ℕ) (ws : List ℕ) → i < n → 1 < getD ws (3 * i) 0 → kindsKnown (n - i) (drop (3 * i) ws) ≡ false
+pub kinds-off : (n i : ℕ) (ws : List ℕ) → i < n → ltb (getD ws (3 * i) 0) 2 ≡ false → kindsKnown (n - i) (drop (3 * i) ws) ≡ false
 kinds-off n i ws h k =
     kinds-more n i ws h
-    ∙ ap (λ b. b && kindsKnown (n - (i + 1)) (drop (3 * (i + 1)) ws)) (le-ltb (getD ws (3 * i) 0) 2 (omega arith))
+    ∙ ap (λ b. b && kindsKnown (n - (i + 1)) (drop (3 * (i + 1)) ws)) k
 
 pub kinds-all : (n i : ℕ) (ws : List ℕ) → n ≤ i → kindsKnown (n - i) ws ≡ true
 unfolding kindsKnown

@@ -4,7 +4,7 @@ use mathlib.Core.Path.{_≡_, refl, sym, ap, ap₂, subst, _∙_}
 use mathlib.Core.Bool.{true, _&&_}
 use mathlib.Core.Logic.{⊎-elim}
 use mathlib.Core.List.{List, [], _∷_, _++_}
-use Prim.Native.Nat.{ℕ, zero, suc, _+_, _-_, _*_, _^_, _≤_, _<_, _%_}
+use Prim.Native.Nat.{ℕ, zero, suc, _+_, _-_, _*_, _^_, _≤_, _<_}
 use lib.Pow.{pow-mono, pow-add}
 use native.Mathlib.Nat.{sub-zero, zero-mul, suc-mul, add-mul, mul-le-mul-right, mod-lt}
 use native.Mathlib.Omega.{arith}
@@ -64,6 +64,11 @@ module _ {K : Type 0} (N : Numbers K) where
   gateValues-at vs [] i d e h = absurd (omega arith)
   gateValues-at vs (g ∷ gs) zero d e h = refl
   gateValues-at vs (g ∷ gs) (suc i) d e h = gateValues-at vs gs i d e (omega arith)
+
+  -- a value that was worked out from the gate at a place
+  pub value-at : (vs : List K) (gs : List Gate) (i : ℕ) (g d : Gate) (y e : K) → i < length gs → y ≡ gateValue N vs g → g ≡ getD gs i d →
+      y ≡ getD (gateValues N vs gs) i e
+  value-at vs gs i g d y e h v p = v ∙ ap (gateValue N vs) p ∙ sym (gateValues-at vs gs i d e h)
 
   -- one more copy
   pub all-more : (ls : List Layer) (n k : ℕ) (vs : List K) →

@@ -3,7 +3,7 @@
 use mathlib.Core.List.{List, []}
 use Prim.Native.Nat.{ℕ, _^_}
 use denote.Ref.{now}
-use Rattle.circuits.specs.Circuit.{sum, product, sizeBelow}
+use Rattle.circuits.specs.Circuit.{sum, product}
 use Rattle.circuits.specs.Circuit as circuit
 use Rattle.circuits.specs.Words.{circuitOf, gatesOf, layersOf}
 use Rattle.circuits.specs.declared.gate.Gate.{Gate}

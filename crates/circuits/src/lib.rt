@@ -16,6 +16,8 @@ pub use outputs::check_counts;
 pub use outputs::check_reduced;
 pub use outputs::run;
 pub use refusal::Refusal;
+pub use shape::power;
+pub use values::layer_values;
 pub use values::work_out;
 pub use view::CircuitView;
 pub use view::LayerView;

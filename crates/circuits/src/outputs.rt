@@ -33,15 +33,25 @@ pub fn check_counts(circuit: CircuitView, inputs: usize, outputs: usize) -> Resu
     }
 }
 
-pub fn check_reduced<M: Modular>(words: &[u32]) -> Result<(), Refusal>
-    ensures { λ r. ⌜ RefusedUnless (allReduced (modulo modulus) (now (words .entry))) Refusal.NotReduced r ⌝ }
+fn all_reduced<M: Modular>(words: &[u32]) -> bool
+    ensures { λ r. ⌜ r ≡ allReduced (modulo modulus) (now (words .entry)) ⌝ }
 {
     for word in words {
         if !M::is_reduced(*word) {
-            return Err(Refusal::NotReduced);
+            return false;
         }
     }
-    Ok(())
+    true
+}
+
+pub fn check_reduced<M: Modular>(words: &[u32]) -> Result<(), Refusal>
+    ensures { λ r. ⌜ RefusedUnless (allReduced (modulo modulus) (now (words .entry))) Refusal.NotReduced r ⌝ }
+{
+    if all_reduced::<M>(words) {
+        Ok(())
+    } else {
+        Err(Refusal::NotReduced)
+    }
 }
 
 // Fills the room with the values of the first of the layers.

@@ -3,6 +3,7 @@
 ghost use mathlib.Core.Bool.{true, false};
 ghost use mathlib.Core.Path.{_≡_};
 ghost use Prim.Native.Nat.{_+_, _*_, _^_, _≤_, _<_};
+ghost use lib.Dec.{ltb};
 ghost use lib.ListN.{length};
 ghost use Rattle.std.specs.Options.{Cases as BySome};
 ghost use Rattle.circuits.specs.Parts.{layerLength, startsLayer};
@@ -23,12 +24,18 @@ pub fn power(size: u32) -> usize
     1 << size
 }
 
+fn is_kind(word: u32) -> bool
+    ensures { λ r. ⌜ r ≡ ltb word 2 ⌝ }
+{
+    word <= PRODUCT
+}
+
 fn kinds_known(count: usize, words: &[u32]) -> bool
     requires { ⌜ 3 * count ≤ length (now words) ⌝ }
     ensures { λ r. ⌜ r ≡ kindsKnown count (now (words .entry)) ⌝ }
 {
     for i in 0..count {
-        if words[3 * i] > PRODUCT {
+        if !is_kind(words[3 * i]) {
             return false;
         }
     }

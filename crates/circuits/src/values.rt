@@ -46,7 +46,8 @@ pub fn layer_values<M: Modular>(layer: LayerView, copies: u32, below: &[u32], va
 {
     let places = power(layer.size_below());
     let gates = layer.gate_count();
-    for copy in 0..power(copies) {
+    let count = power(copies);
+    for copy in 0..count {
         let from = copy * places;
         let to = copy * gates;
         gate_values::<M>(

@@ -1,20 +1,17 @@
 // dice N: prints N coins, one a line, made from the bytes of standard input.
 // If the bytes end first, it has printed the coins so far and prints `no 2`.
+use circuits::Refusal;
 use programs::dice::coin_of_bytes;
 use programs::failure;
 use programs::failure::Failure;
 use programs::failure::FailureFromIo;
+use programs::files::refused;
+use programs::number::one_number;
 use std::env;
 use std::io;
 use std::io::ReadMethods;
 
 const USAGE: &str = "dice N";
-
-// not as many bytes as it takes
-const WRONG_COUNT: u32 = 2;
-
-// a count that is no number
-const UNKNOWN_FORM: u32 = 5;
 
 // Four more bytes, or the refusal where they end.
 fn four_bytes(input: &mut io::Stdin) -> Result<[u8; 4], Failure> {
@@ -22,14 +19,14 @@ fn four_bytes(input: &mut io::Stdin) -> Result<[u8; 4], Failure> {
     match input.read_exact(&mut bytes) {
         Ok(()) => Ok(bytes),
         Err(error) => match error.kind() {
-            io::ErrorKind::UnexpectedEof => Err(Failure::Refused(WRONG_COUNT)),
+            io::ErrorKind::UnexpectedEof => Err(refused(Refusal::WrongCount)),
             _ => Err(Failure::System(error)),
         },
     }
 }
 
 // Four bytes that make the modulus make no coin, so there may be more turns than coins.
-fn roll(rt: &LibcRuntime, count: u64) -> Result<(), Failure> {
+fn roll(rt: &LibcRuntime, count: u32) -> Result<(), Failure> {
     let mut input = rt.stdin();
     let mut left = count;
     for _ in 0..u64::MAX {
@@ -41,7 +38,7 @@ fn roll(rt: &LibcRuntime, count: u64) -> Result<(), Failure> {
             left -= 1;
         }
     }
-    Err(Failure::Refused(WRONG_COUNT))
+    Err(refused(Refusal::WrongCount))
 }
 
 fn work(rt: &LibcRuntime) -> Result<(), Failure> {
@@ -49,9 +46,9 @@ fn work(rt: &LibcRuntime) -> Result<(), Failure> {
     let (_, Some(count), None) = (args.next(), args.next(), args.next()) else {
         return Err(Failure::Usage);
     };
-    match count.as_str().parse::<u64>() {
+    match one_number(count.as_str().as_bytes()) {
         Ok(count) => roll(rt, count),
-        Err(_) => Err(Failure::Refused(UNKNOWN_FORM)),
+        Err(refusal) => Err(refused(refusal)),
     }
 }
 

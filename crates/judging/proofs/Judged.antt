@@ -12,10 +12,10 @@ use Rattle.arithmetic.specs.Numbers.{allReduced}
 use Rattle.circuits.specs.Circuit.{outputSize}
 use Rattle.circuits.specs.Words.{modulus, circuitOf, isCircuit}
 use Rattle.argument.specs.Argument.{coinsOf, accepts}
-use Rattle.argument.specs.Transcript.{answersOf, answerWords, proverOf, judged}
+use Rattle.argument.specs.Transcript.{answerWords, proverOf, judged}
 use Rattle.judging.specs.declared.verdict.Verdict.{Verdict}
 use Rattle.judging.specs.declared.verdict.Verdict.the-variants.{Believed, Stopped}
-use Rattle.judging.specs.Checks.{Checked}
+use Rattle.judging.specs.Checks.{Checked, answersIn}
 use Rattle.judging.specs.Machine.{numberOf, isBelieved, verdict}
 use Rattle.judging.specs.Meaning.{numbers}
 use Rattle.judging.proofs.Bridge.{machine-believes}
@@ -57,11 +57,11 @@ module _ (cs vs claimed messages coins : List ℕ) (h : Checked cs vs claimed me
 
   pub judged-verdict : (v : Verdict) →
       let c = circuitOf cs in
-      v ≡ verdict numbers c vs claimed (answersOf (c .copies) (c .layers) (c .inputs) messages) coins →
+      v ≡ verdict numbers c vs claimed (answersIn c messages) coins →
       numberOf v ≡ judged cs vs claimed messages coins
   judged-verdict v e =
       let c = circuitOf cs in
-      let answers = answersOf (c .copies) (c .layers) (c .inputs) messages in
+      let answers = answersIn c messages in
       let enough : length coins ≡ coinsOf c = eqb-true (length coins) (coinsOf c) coins-count in
       sym (number-is v) ∙ ap (λ (w : Verdict). cond (isBelieved w) 0 4) e ∙
       ap (λ (b : Bool). cond b 0 4) (machine-believes modulus c vs claimed answers coins enough) ∙ sym judged-checked

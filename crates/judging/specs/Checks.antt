@@ -10,7 +10,7 @@ use Rattle.arithmetic.specs.Numbers.{allReduced}
 use Rattle.circuits.specs.Circuit.{Circuit, outputSize}
 use Rattle.circuits.specs.Words.{circuitOf, isCircuit}
 use Rattle.argument.specs.Argument.{coinsOf}
-use Rattle.argument.specs.Transcript.{answerWords}
+use Rattle.argument.specs.Transcript.{answersOf, answerWords}
 use Rattle.judging.specs.Meaning.{numbers}
 
 -- as many inputs and outputs as the circuit has
@@ -20,6 +20,10 @@ countsFit c inputs outputs = eqb inputs (2 ^ (c .copies + c .inputs)) && eqb out
 -- as many words of answers and coins as it takes
 abbrev pub lengthsFit : Circuit → ℕ → ℕ → Bool
 lengthsFit c words coins = eqb words (answerWords c) && eqb coins (coinsOf c)
+
+-- the answers of a circuit's argument, cut out of the words in which they lie side by side
+abbrev pub answersIn : Circuit → List ℕ → List (List ℕ)
+answersIn c ws = answersOf (c .copies) (c .layers) (c .inputs) ws
 
 pub record Checked (cs vs claimed messages coins : List ℕ) : Type 0 where
   pub circuit : isCircuit cs ≡ true

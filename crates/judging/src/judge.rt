@@ -2,10 +2,13 @@
 // It drives the same verifier that goes step by step where answers and coins come one by one.
 ghost use mathlib.Core.Path.{_≡_};
 ghost use lib.ListN.{length};
+ghost use Rattle.std.specs.Results.{Cases};
 ghost use Rattle.circuits.specs.Refusals.{answerOf};
+ghost use Rattle.circuits.specs.Refusals.{numberOf as refusalNumber};
+ghost use Rattle.circuits.specs.Words.{circuitOf};
 ghost use Rattle.circuits.specs.Views.{wordsSeen, circuitSeen};
-ghost use Rattle.argument.specs.Transcript.{answersOf, judged};
-ghost use Rattle.judging.specs.Checks.{Checked};
+ghost use Rattle.argument.specs.Transcript.{judged};
+ghost use Rattle.judging.specs.Checks.{Checked, answersIn};
 ghost use Rattle.judging.specs.Machine.{verdict};
 ghost use Rattle.judging.specs.Meaning.{numbers as field};
 ghost use Rattle.judging.specs.Soundness.{JudgesSoundly};
@@ -38,11 +41,26 @@ fn decide<'a>(
     coins: &[u32],
 ) -> Verdict
     requires { ⌜ Checked (wordsSeen circuit) (now inputs) (now claimed) (now messages) (now coins) ⌝ }
-    ensures { λ r. ⌜ r ≡ verdict field (circuitSeen (circuit .entry)) (now (inputs .entry)) (now (claimed .entry)) (answersOf (circuitSeen (circuit .entry) .copies) (circuitSeen (circuit .entry) .layers) (circuitSeen (circuit .entry) .inputs) (now (messages .entry))) (now (coins .entry)) ⌝ }
+    ensures { λ r. ⌜ r ≡ verdict field (circuitSeen (circuit .entry)) (now (inputs .entry)) (now (claimed .entry)) (answersIn (circuitSeen (circuit .entry)) (now (messages .entry))) (now (coins .entry)) ⌝ }
 {
     let first = first_coins(circuit);
     let mut verifier = Verifier::new(circuit, inputs, claimed, &coins[0..first]);
     hear_all(&mut verifier, messages, &coins[first..coins.len()])
+}
+
+// The verdict itself, with the place where it stopped believing, or why the words are refused.
+pub fn examine(
+    circuit: &[u32],
+    inputs: &[u32],
+    claimed: &[u32],
+    messages: &[u32],
+    coins: &[u32],
+) -> Result<Verdict, Refusal>
+    ensures { λ r. ⌜ Cases r (λ v. Checked (now (circuit .entry)) (now (inputs .entry)) (now (claimed .entry)) (now (messages .entry)) (now (coins .entry)) × (v ≡ verdict field (circuitOf (now (circuit .entry))) (now (inputs .entry)) (now (claimed .entry)) (answersIn (circuitOf (now (circuit .entry))) (now (messages .entry))) (now (coins .entry)))) (λ e. refusalNumber e ≡ judged (now (circuit .entry)) (now (inputs .entry)) (now (claimed .entry)) (now (messages .entry)) (now (coins .entry))) ⌝ }
+{
+    check_all(circuit, inputs, claimed, messages, coins)?;
+    let view = CircuitView::new(circuit);
+    Ok(decide(view, inputs, claimed, messages, coins))
 }
 
 fn try_judge(
@@ -54,8 +72,7 @@ fn try_judge(
 ) -> Result<(), Refusal>
     ensures { λ r. ⌜ answerOf r ≡ judged (now (circuit .entry)) (now (inputs .entry)) (now (claimed .entry)) (now (messages .entry)) (now (coins .entry)) ⌝ }
 {
-    check_all(circuit, inputs, claimed, messages, coins)?;
-    match decide(CircuitView::new(circuit), inputs, claimed, messages, coins) {
+    match examine(circuit, inputs, claimed, messages, coins)? {
         Verdict::Believed => Ok(()),
         Verdict::Stopped(_, _) => Err(Refusal::NotBelieved),
     }

@@ -1,1 +1,8 @@
 mod LowBits
+mod ScanSteps
+mod HeardLines
+mod LastCoin
+mod CoinsLeft
+mod BelievedOnly
+mod RightTalk
+mod HonestTalk

@@ -61,26 +61,19 @@ abbrev pub ending : Verdict → List (Option ℕ) → Said
 ending Believed dice = closed dice
 ending (Stopped layer place) dice = verdict (Stopped layer place)
 
-module _ (c : Circuit) (vs : List ℕ) where
-  abbrev pub settledAt : Stand ℕ → Verdict
-  settledAt s = settled (modulo modulus) (c .copies) (c .inputs) vs s
+-- a line that holds no answer that fits is not believed; after one that does, a coin is drawn
+abbrev pub heard : Stand ℕ → Option (List ℕ) → (List ℕ → List Said) → List Said
+heard s None go = verdict (doubt s) ∷ []
+heard s (Some answer) go = cond (fits (modulo modulus) s answer) (go answer) (verdict (doubt s) ∷ [])
 
-  abbrev pub doubtAt : Stand ℕ → Verdict
-  doubtAt s = doubt (modulo modulus) (c .copies) (c .inputs) vs s
-
-  -- a line that holds no answer that fits is not believed; after one that does, a coin is drawn
-  abbrev pub heard : Stand ℕ → Option (List ℕ) → (List ℕ → List Said) → List Said
-  heard s None go = verdict (doubtAt s) ∷ []
-  heard s (Some answer) go =
-      cond (fits (modulo modulus) (c .copies) (c .inputs) vs s answer) (go answer) (verdict (doubtAt s) ∷ [])
-
-  -- from here on: at the inputs the claim is settled; before, the end of the house's lines is not believed
-  unfoldable pub talk : Stand ℕ → List (Option ℕ) → List (List ℕ) → List Said
-  talk s dice [] = cond (atInputs (s .layers)) (ending (settledAt s) dice ∷ []) (verdict (doubtAt s) ∷ [])
-  talk s dice (line ∷ lines) =
-      cond (atInputs (s .layers)) (ending (settledAt s) dice ∷ [])
-      (heard s (numbersOf line)
-      (λ answer. drawn dice (λ r rest. talk (next (modulo modulus) (c .copies) (c .inputs) vs s answer r) rest lines)))
+-- from here on, vs being the inputs: at the inputs the claim is settled; before, the end of the house's lines is not
+-- believed
+unfoldable pub talk : List ℕ → Stand ℕ → List (Option ℕ) → List (List ℕ) → List Said
+talk vs s dice [] =
+    cond (atInputs (s .layers)) (ending (settled (modulo modulus) vs s) dice ∷ []) (verdict (doubt s) ∷ [])
+talk vs s dice (line ∷ lines) =
+    cond (atInputs (s .layers)) (ending (settled (modulo modulus) vs s) dice ∷ [])
+    (heard s (numbersOf line) (λ answer. drawn dice (λ r rest. talk vs (next (modulo modulus) s answer r) rest lines)))
 
 -- the first coins, n of them, after those of z
 unfoldable pub opening : ℕ → List ℕ → List (Option ℕ) → (List ℕ → List (Option ℕ) → List Said) → List Said
@@ -90,4 +83,4 @@ opening (suc n) z dice go = drawn dice (λ r rest. opening n (z ++ (r ∷ [])) r
 -- all that is printed, for a circuit, inputs and claimed outputs that are not refused
 abbrev pub judgeSays : Circuit → List ℕ → List ℕ → List (Option ℕ) → List (List ℕ) → List Said
 judgeSays c vs claimed dice lines =
-    opening (firstCoins c) [] dice (λ z rest. talk c vs (start (modulo modulus) c claimed z) rest lines)
+    opening (firstCoins c) [] dice (λ z rest. talk vs (start (modulo modulus) c claimed z) rest lines)

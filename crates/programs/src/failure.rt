@@ -1,5 +1,6 @@
 // Why a program ends with status 1, and what it says then.
 // A refusal is printed on standard output, as `no 3`; all else on standard error.
+use circuits::Refusal;
 use std::alloc::AllocError;
 use std::io;
 
@@ -18,6 +19,12 @@ pub enum Failure {
 pub impl From<io::Error> for Failure as FailureFromIo {
     fn from(error: io::Error) -> Failure {
         Failure::System(error)
+    }
+}
+
+pub impl From<Refusal> for Failure as FailureFromRefusal {
+    fn from(refusal: Refusal) -> Failure {
+        Failure::Refused(refusal.number())
     }
 }
 

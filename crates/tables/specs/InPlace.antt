@@ -1,5 +1,5 @@
 -- What the code leaves in the memory that it is lent: a table halved again and again, and the table of eq at all corners.
--- And the two formulas that it computes number by number.
+-- And the formulas that it computes number by number.
 use mathlib.Core.List.{List, [], _∷_, _++_, map}
 use Prim.Native.Nat.{ℕ, _/_, _^_}
 use lib.ListN.{length, drop}

@@ -1,7 +1,7 @@
 // The eq polynomial: at two points, and at one point and all corners.
 // The table of all corners takes one multiplication for each two of its places.
 ghost use mathlib.Core.Path.{_≡_};
-ghost use mathlib.Core.List.{_++_, map};
+ghost use mathlib.Core.List.{_++_};
 ghost use Prim.Native.Nat.{_/_, _%_, _<_, _≤_, _^_};
 ghost use lib.Dec.{T};
 ghost use lib.ListN.{length, take, drop};

@@ -2,5 +2,6 @@
 // All of it is done in memory that the caller lends.
 pub mod eq;
 pub mod halving;
+pub mod promises;
 #[cfg(test)]
 mod tests;

@@ -1,6 +1,7 @@
 -- A line of numbers grows at its end: a gap, and the digits of one number more, with no gap before the first.
 -- Many numbers go line by line: k of them, a line end, and what is left.
 use mathlib.Core.Logic.{⊎-elim}
+use mathlib.Core.Bool.{true}
 use mathlib.Core.Path.{_≡_, refl, sym, ap, subst, _∙_}
 use mathlib.Core.List.{List, [], _∷_, _++_, append-assoc, append-nil}
 use Prim.Native.Nat.{ℕ, zero, suc, _+_, _≤_, _<_, min}
@@ -9,9 +10,16 @@ use lib.ListN.{length, take, drop, getD, length-drop}
 use Rattle.std.proofs.Writes.{wrote-none, put-more, put-is}
 use Rattle.std.proofs.shelf.Lists.{take-more, take-all, drop-all}
 use Rattle.std.proofs.shelf.Tests.{cases-lt}
+use Rattle.std.specs.Results.{isOk}
 use Rattle.std.specs.Written.{decimal, Plain, Put}
 use Rattle.std.specs.declared.fmt.Formatter.{Formatter}
+use Rattle.std.specs.declared.result.Result.{Result}
+use Rattle.std.specs.declared.result.Result.the-variants.{Ok}
 use Rattle.texts.specs.Texts.{lineOf, linesBy, linesOf}
+
+-- a call that answered `Ok`, as the clauses on what is written want it
+pub is-ok : {T E : Type 0} (r : Result T E) (x : T) → r ≡ Ok x → isOk r ≡ true
+is-ok r x e = ap isOk e
 
 -- what stands between these numbers and the next
 abbrev pub gapAfter : List ℕ → List ℕ
@@ -59,7 +67,7 @@ lines-step k (n ∷ ns) some more =
     ap (λ (l : List ℕ). lineOf (take k (n ∷ ns)) ++ (10 ∷ l)) (lines-turns (length ns) (length (drop k (n ∷ ns))) k (drop k (n ∷ ns)) some (omega arith) (omega arith))
 
 -- the first k, or all where there are fewer
-pub cut-at : (k m : ℕ) (ns : List ℕ) → m ≡ min k (length ns) → (take m ns ≡ take k ns) × (drop m ns ≡ drop k ns)
+cut-at : (k m : ℕ) (ns : List ℕ) → m ≡ min k (length ns) → (take m ns ≡ take k ns) × (drop m ns ≡ drop k ns)
 cut-at k m ns is =
     ⊎-elim
     (λ (h : k < length ns). let e : m ≡ k = omega arith in (ap (λ x. take x ns) e, ap (λ x. drop x ns) e))
@@ -76,15 +84,19 @@ module _ {W : Type 0} (took : W → List ℕ → W → Type 0) (f : Formatter W)
   pub laid-none : (all : List ℕ) → Laid took f k all all f
   laid-none all = record { written = []; whole = refl; put = λ plain. record { wrote = wrote-none took (f .writer); plain = plain } }
 
-  pub laid-more : (all left line left′ : List ℕ) (g g′ : Formatter W) → 0 < k → 0 < length left → line ≡ take k left → left′ ≡ drop k left → Laid took f k all left g → (Plain g → Put took g (lineOf line ++ (10 ∷ [])) g′) → Laid took f k all left′ g′
-  laid-more all left line left′ g g′ some more front back so next = record {
-    written = so .written ++ (lineOf line ++ (10 ∷ []));
-    whole =
-        append-assoc (so .written) (lineOf line ++ (10 ∷ [])) (linesOf k left′)
-        ∙ ap (λ (l : List ℕ). so .written ++ l) (append-assoc (lineOf line) (10 ∷ []) (linesOf k left′) ∙ (λ i. lineOf (front i) ++ (10 ∷ linesOf k (back i))) ∙ sym (lines-step k left some more))
-        ∙ so .whole;
-    put = λ plain. let was = so .put plain in put-more took f (so .written) g (lineOf line ++ (10 ∷ [])) g′ was (next (was .plain));
-  }
+  pub laid-more : (all left line left′ : List ℕ) (m : ℕ) (g g′ : Formatter W) → 0 < k → 0 < length left → m ≡ min k (length left) → line ≡ take m left → left′ ≡ drop m left → Laid took f k all left g → (Plain g → Put took g (lineOf line ++ (10 ∷ [])) g′) → Laid took f k all left′ g′
+  laid-more all left line left′ m g g′ some more least front back so next =
+      let cut = cut-at k m left least in
+      let whole-front : line ≡ take k left = front ∙ cut .0 in
+      let whole-back : left′ ≡ drop k left = back ∙ cut .1 in
+      record {
+        written = so .written ++ (lineOf line ++ (10 ∷ []));
+        whole =
+            append-assoc (so .written) (lineOf line ++ (10 ∷ [])) (linesOf k left′)
+            ∙ ap (λ (l : List ℕ). so .written ++ l) (append-assoc (lineOf line) (10 ∷ []) (linesOf k left′) ∙ (λ i. lineOf (whole-front i) ++ (10 ∷ linesOf k (whole-back i))) ∙ sym (lines-step k left some more))
+            ∙ so .whole;
+        put = λ plain. let was = so .put plain in put-more took f (so .written) g (lineOf line ++ (10 ∷ [])) g′ was (next (was .plain));
+      }
 
   pub laid-all : (all left : List ℕ) (g : Formatter W) → length left ≡ 0 → Laid took f k all left g → Plain f → Put took f (linesOf k all) g
   unfolding linesBy

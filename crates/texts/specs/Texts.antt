@@ -1,5 +1,6 @@
 -- Which numbers a text of bytes holds, and the text that numbers are written as.
 -- Numbers are decimal; only spaces and line ends stand between them; a line that begins with # is passed over.
+-- A line that comes alone, from a pipe, is a text too: if it begins with #, it has no numbers.
 use mathlib.Core.Bool.{Bool, true, false, cond, _&&_, _||_}
 use mathlib.Core.List.{List, [], _∷_, _++_}
 use Prim.Native.Nat.{ℕ, zero, suc, _+_, _-_, _*_, min}

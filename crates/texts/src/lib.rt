@@ -5,5 +5,8 @@ pub mod error;
 pub mod line;
 pub mod lines;
 pub mod reader;
+#[cfg(test)]
+mod tests;
 pub mod whole;
-pub mod words;
+mod words;
+pub mod written;

@@ -25,6 +25,7 @@ pub fn read_numbers(heap: Global, text: &[u8]) -> Result<Vec<u32>, TextError>
 
 // Puts the numbers of a text into the first of the words that are lent, and says how many there are.
 // Where there is no room for them all, the text is still read to its end: a word that is no number comes first.
+// Where it refuses, the words hold what fitted, and nothing is promised of them.
 pub fn read_into(text: &[u8], room: &mut [u32]) -> Result<usize, TextError>
     ensures { λ r. ⌜ ReadInto (now (text .entry)) (now (room .entry)) r (now (room .exit)) ⌝ }
 {

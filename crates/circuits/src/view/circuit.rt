@@ -97,11 +97,12 @@ impl<'a> CircuitView<'a> {
         ensures copies { λ r. ⌜ copiesAbove r ≡ circuitSeen (self .entry) .copies ⌝ }
         ensures inputs { λ r. ⌜ inputsBelow r ≡ circuitSeen (self .entry) .inputs ⌝ }
     {
+        let words = self.words;
         LayersView {
-            copies: self.words[0],
-            inputs: self.words[1],
-            count: self.words[2],
-            words: &self.words[HEAD..],
+            copies: words[0],
+            inputs: words[1],
+            count: words[2],
+            words: &words[HEAD..],
         }
     }
 }

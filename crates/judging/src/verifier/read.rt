@@ -45,7 +45,7 @@ fn two(said: &[u32]) -> Option<[u32; 2]>
 
 impl<'a> Verifier<'a> {
     // Not believed, where it stands.
-    fn doubt(&self) -> Verdict
+    pub fn doubt(&self) -> Verdict
         ensures { λ r. ⌜ r ≡ doubted (standOf (now (self .entry))) ⌝ }
     {
         if self.variable_due() {

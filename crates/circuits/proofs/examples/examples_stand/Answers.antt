@@ -1,3 +1,4 @@
+-- The examples compute.
 use mathlib.Core.Path.{refl}
 use Rattle.circuits.specs.Circuit.{gatesFit, layersFit, gateValues, copyValues, allValues}
 use Rattle.circuits.specs.Words.{gatesOf, layersOf, kindsKnown, shaped}

@@ -1,3 +1,4 @@
+-- Each turn asks for the two places of one more gate, in the order of the definition.
 use mathlib.Core.Path.{sym, _∙_}
 use native.Mathlib.Omega.{arith}
 use Rattle.circuits.proofs.Steps.{fits-on, fits-off-left, fits-off-right, fits-all}

@@ -1,3 +1,4 @@
+-- The gates that are left answer as all of them do.
 use mathlib.Core.Path.{_≡_}
 use Prim.Native.Nat.{_-_, _*_}
 use lib.ListN.{drop}

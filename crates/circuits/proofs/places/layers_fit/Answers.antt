@@ -1,3 +1,4 @@
+-- The layer that is split off is the first of those left, so the definition takes the same step.
 use mathlib.Core.Path.{_≡_, sym, ap, _∙_}
 use mathlib.Core.Bool.{true, false}
 use Prim.Native.Nat.{_+_, _-_}

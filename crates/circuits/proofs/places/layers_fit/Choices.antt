@@ -1,3 +1,4 @@
+-- The layers that are left answer as all of them do, and still have the shape of layers.
 use mathlib.Core.Bool.{true}
 use mathlib.Core.Path.{_≡_}
 use Prim.Native.Nat.{_-_}

@@ -1,3 +1,4 @@
+-- Words of the shape of layers start with a whole layer, so that its parts lie within them.
 use mathlib.Core.Path.{_≡_, refl, ap, _∙_}
 use Prim.Native.Nat.{_+_, _-_, _*_, _^_}
 use native.Mathlib.Omega.{arith}

@@ -1,3 +1,4 @@
+-- With no layer it is the size of the inputs, else the first word.
 use mathlib.Core.Path.{sym, _∙_}
 use native.Mathlib.Omega.{arith}
 use Rattle.circuits.proofs.Steps.{top-none, top-some}

@@ -1,3 +1,4 @@
+-- The words that are left answer as all of them do.
 use mathlib.Core.Path.{_≡_}
 use Prim.Native.Nat.{_-_}
 use Rattle.circuits.specs.Words.{shaped}

@@ -1,3 +1,4 @@
+-- Each way out is one part of the test, by its order; what was asked of the words after the first is the last part.
 use mathlib.Core.Path.{_≡_, sym, ap₂, _∙_}
 use mathlib.Core.Bool.{Bool, true, false}
 use mathlib.Core.List.{List}

@@ -1,21 +1,18 @@
+-- The layers below leave their values at the front of the spare room, and the first layer is worked out over those.
 use mathlib.Core.List.{List, [], _∷_}
 use mathlib.Core.Path.{_≡_, sym, ap, ap₂, subst, _∙_}
-use Prim.Native.Nat.{ℕ, _-_, _*_, _^_, _<_, _≤_}
+use Prim.Native.Nat.{ℕ, _-_, _*_, _^_, _<_}
 use native.Mathlib.Nat.{sub-zero}
 use native.Mathlib.Omega.{arith}
-use lib.ListN.{length, take, drop, getD}
-use Rattle.std.proofs.shelf.Lists.{drop-more}
+use borrow.Rule.Slice.PartMut.{postOf}
+use lib.ListN.{length, take}
 use Rattle.arithmetic.specs.Numbers.{Numbers, modulo}
 use Rattle.circuits.specs.Circuit.{Layer, sizeBelow, allValues}
 use Rattle.circuits.specs.Values.{EachBelow}
-use Rattle.circuits.specs.Views.{layersSeen, layerSeen, sizeSeen, placesBelow, noLayer}
-use Rattle.circuits.proofs.Parts.{layers-parts}
+use Rattle.circuits.specs.Views.{layersSeen, layerSeen, sizeSeen, placesBelow}
+use Rattle.circuits.proofs.Parts.{layers-parts, parted}
 use Rattle.circuits.proofs.WorkingOut.{count-limit, front-length, first-over, none-over, all-below}
 use Rattle.circuits.proofs.values.+work_out.Needs as need
-
--- the first of some layers, and the others
-parted : (ls rest : List Layer) (l : Layer) → 0 < length ls → l ≡ getD ls 0 noLayer → rest ≡ drop 1 ls → ls ≡ l ∷ rest
-parted ls rest l some e f = drop-more ls 0 noLayer some ∙ ap₂ (λ x y. x ∷ y) (sym e) (sym f)
 
 -- what the layers below left at the front of the spare room
 left-below : (N : Numbers ℕ) (rest : List Layer) (copies inputs c i count : ℕ) (vs spare : List ℕ) → c ≡ copies → i ≡ inputs →
@@ -58,7 +55,7 @@ layer-values-requires g t c κs =
 pub returns-then-count-eq0 : need.returns-then-count-eq0
 returns-then-count-eq0 g t c =
     let v = c .args .layers in
-    none-over (modulo (g .M·Modular .modulus)) (layersSeen v) (v .copies) (v .inputs) (c .args .inputs .now) (c .copy-from-slice .last .self) _
+    none-over (modulo (g .M·Modular .modulus)) (layersSeen v) (v .copies) (v .inputs) (c .args .inputs .now) (c .copy-from-slice .last .self) (postOf 0 (length (c .args .inputs .now) - 0) (c .args .values .now))
     (omega arith) (c .pre .inputs) (c .copy-from-slice .ensures .after)
 
 pub returns-else-count-eq0 : need.returns-else-count-eq0
@@ -77,4 +74,4 @@ returns-else-count-eq0 g t c =
     let new : c .layer-values .last .values ≡ allValues N (layerSeen (c .first .result) ∷ []) (2 ^ sizeBelow (layersSeen r) (v .inputs)) (2 ^ v .copies) (take (c .value-count .result - 0) spare) =
     c .layer-values .ensures ∙ ap₂ (λ x y. allValues N (layerSeen (c .first .result) ∷ []) (2 ^ x) (2 ^ y) (take (c .value-count .result - 0) spare)) a (c .copies .ensures .value) in
     first-over N (layersSeen v) (layersSeen r) (layerSeen (c .first .result)) (v .copies) (v .inputs) vs (take (c .value-count .result - 0) spare)
-    (c .layer-values .last .values) _ e (parts .fits) (c .pre .inputs) left new
+    (c .layer-values .last .values) (postOf 0 (c .value-count-made .result - 0) (c .work-out .last .spare)) e (parts .fits) (c .pre .inputs) left new

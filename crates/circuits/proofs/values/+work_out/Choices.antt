@@ -1,3 +1,4 @@
+-- There are fewer layers at each call.
 use lib.ListN.{length}
 use Rattle.circuits.specs.Views.{layersSeen}
 use Rattle.circuits.proofs.values.+work_out.Given as given

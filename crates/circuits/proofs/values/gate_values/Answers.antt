@@ -1,12 +1,13 @@
-use mathlib.Core.Path.{_≡_, sym, ap, _∙_}
-use Prim.Native.Nat.{_^_, _<_, _≤_}
+-- Each turn fills one more place with the value of its gate.
+use mathlib.Core.Path.{_≡_}
+use Prim.Native.Nat.{_^_, _<_}
 use native.Mathlib.Omega.{arith}
 use lib.ListN.{length, getD}
 use Rattle.arithmetic.specs.Numbers.{modulo}
-use Rattle.circuits.specs.Circuit.{gateValue, gateValues}
-use Rattle.circuits.specs.Views.{gatesSeen, noGate}
+use Rattle.circuits.specs.Circuit.{gateValues}
+use Rattle.circuits.specs.Views.{gatesSeen, gateMeant, noGate}
 use Rattle.circuits.proofs.Steps.{length-gatesOf}
-use Rattle.circuits.proofs.WorkingOut.{fill-more, fill-all, length-gateValues, gateValues-at}
+use Rattle.circuits.proofs.WorkingOut.{fill-more, fill-all, length-gateValues, value-at}
 use Rattle.circuits.proofs.values.gate_values.Needs as need
 
 pub loop-i-again : need.loop-i-again
@@ -20,7 +21,7 @@ loop-i-again g c =
     let h : i < length gs = omega arith in
     let k : i < length (gateValues N below gs) = omega (arith, length-gateValues N below gs) in
     let w : c .combine .result ≡ getD (gateValues N below gs) i 0 =
-    c .combine .ensures ∙ ap (gateValue N below) (c .gate-gate .ensures .value) ∙ sym (gateValues-at N below gs i noGate 0 h) in
+    value-at N below gs i (gateMeant (c .gate-gate .result)) noGate (c .combine .result) 0 h (c .combine .ensures) (c .gate-gate .ensures .value) in
     fill-more (c .loop-i .values) (gateValues N below gs) i (c .combine .result) (omega arith) k (c .loop-i .inv) w
 
 pub returns : need.returns

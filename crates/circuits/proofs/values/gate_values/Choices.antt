@@ -1,3 +1,4 @@
+-- The places up to this one hold the values of their gates.
 use mathlib.Core.Path.{_≡_}
 use lib.ListN.{take}
 use Rattle.arithmetic.specs.Numbers.{modulo}

@@ -1,6 +1,7 @@
+-- Each turn writes the values of one more copy behind those of the copies before it.
 use mathlib.Core.Path.{_≡_, sym, ap₂, _∙_}
 use mathlib.Core.List.{[], _∷_}
-use Prim.Native.Nat.{_+_, _-_, _*_, _^_, _≤_}
+use Prim.Native.Nat.{_+_, _-_, _*_, _^_}
 use native.Mathlib.Omega.{arith}
 use lib.ListN.{length}
 use Rattle.std.proofs.shelf.Lists.{take-all}
@@ -16,20 +17,20 @@ loop-copy-holds g c =
 
 pub part-gate-values-end : need.part-gate-values-end
 part-gate-values-end g c =
-    let e : length (c .args .below .now) ≡ c .power-copy-end .result * c .power-places .result = cc (c .pre .lengths .0) in
-    let h = row-end (c .loop-copy .copy) (c .power-copy-end .result) (c .power-places .result) (c .loop-copy-test .taken) in
+    let e : length (c .args .below .now) ≡ c .power-count .result * c .power-places .result = cc (c .pre .lengths .0) in
+    let h = row-end (c .loop-copy .copy) (c .power-count .result) (c .power-places .result) (c .loop-copy-test .taken) in
     omega arith
 
 pub part-gate-values-end-in-loop-copy : need.part-gate-values-end-in-loop-copy
 part-gate-values-end-in-loop-copy g c =
-    let e : length (c .args .values .now) ≡ c .power-copy-end .result * c .gate-count-gates .result = cc (c .pre .lengths .1) in
-    let h = row-end (c .loop-copy .copy) (c .power-copy-end .result) (c .gate-count-gates .result) (c .loop-copy-test .taken) in
+    let e : length (c .args .values .now) ≡ c .power-count .result * c .gate-count-gates .result = cc (c .pre .lengths .1) in
+    let h = row-end (c .loop-copy .copy) (c .power-count .result) (c .gate-count-gates .result) (c .loop-copy-test .taken) in
     omega arith
 
 pub gate-values-requires : need.gate-values-requires
 gate-values-requires g c κs =
     let k = c .loop-copy .copy in
-    let count = c .power-copy-end .result in
+    let count = c .power-count .result in
     let n = c .power-places .result in
     let m = c .gate-count-gates .result in
     let below = c .args .below .now in
@@ -48,7 +49,7 @@ pub loop-copy-again : need.loop-copy-again
 loop-copy-again g c =
     let N = modulo (g .M·Modular .modulus) in
     let k = c .loop-copy .copy in
-    let count = c .power-copy-end .result in
+    let count = c .power-count .result in
     let n = c .power-places .result in
     let m = c .gate-count-gates .result in
     let values = c .loop-copy .values in
@@ -64,7 +65,7 @@ returns g c =
     let k = c .loop-copy .copy in
     let m = c .gate-count-gates .result in
     let values = c .loop-copy .values in
-    let e : k ≡ c .power-copy-end .result = omega arith in
+    let e : k ≡ c .power-count .result = omega arith in
     let f : length values ≡ k * m = cc (c .pre .lengths .1) in
     let a : c .power-places .result ≡ 2 ^ placesBelow (c .args .layer) = cc in
     let b : k ≡ 2 ^ c .args .copies = cc in

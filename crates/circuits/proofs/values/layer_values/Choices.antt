@@ -1,3 +1,4 @@
+-- The front holds the values of the copies so far.
 use mathlib.Core.List.{[], _∷_}
 use mathlib.Core.Path.{_≡_}
 use Prim.Native.Nat.{_*_}

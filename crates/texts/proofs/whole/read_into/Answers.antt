@@ -1,3 +1,4 @@
+-- One number more: it stands at its place if there is room, and the words beyond it are as they were.
 use mathlib.Core.Path.{_≡_, sym}
 use Prim.Native.Nat.{_<_}
 use native.Mathlib.Omega.{arith}

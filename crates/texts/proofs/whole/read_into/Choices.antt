@@ -1,3 +1,4 @@
+-- The numbers so far stand in the first words; each number leaves less of the text.
 use lib.ListN.{length, drop}
 use Rattle.texts.proofs.Reading.{Filled}
 use Rattle.texts.proofs.whole.read_into.Given as given

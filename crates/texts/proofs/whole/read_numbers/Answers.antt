@@ -1,3 +1,4 @@
+-- One number more stands at the end of the vector, and before those of what is left.
 use mathlib.Core.Path.{_≡_, refl, sym, ap, _∙_}
 use mathlib.Core.List.{List, [], _∷_, _++_}
 use Prim.Native.Nat.{ℕ}
@@ -14,5 +15,5 @@ loop-numbers-again c =
     let left′ = drop (c .next .last .self .at) (c .next .last .self .text .now) in
     let number = c .in-Some .number in
     let read = at-number left left′ (c .in-Continue-number .field-0) number (c .in-Some .is) (c .in-Continue-number .ensures tt) in
-    let items : vec-items (c .push .last .self) ≡ vec-items (c .loop-numbers .numbers) ++ number ∷ [] = pushed (number ∷ []) refl (c .in-Continue-push .was tt) (c .push .ensures .items) in
+    let items : vec-items (c .push .last .self) ≡ vec-items (c .loop-numbers .numbers) ++ number ∷ [] = pushed {r = c .push .result} (number ∷ []) refl (c .in-Continue-push .was tt) (c .push .ensures .items) in
     ap (λ (ns : List ℕ). after ns (numbersOf left′)) items ∙ after-one (vec-items (c .loop-numbers .numbers)) number (numbersOf left′) ∙ ap (after (vec-items (c .loop-numbers .numbers))) (sym (read .0)) ∙ c .loop-numbers .inv

@@ -1,3 +1,4 @@
+-- The numbers so far, before those of what is left, are those of the text; each number leaves less of it.
 use mathlib.Core.Path.{_≡_}
 use lib.ListN.{length, drop}
 use Rattle.std.specs.Of.Vec.{vec-items}

@@ -1,3 +1,4 @@
+-- A byte that is no line end leaves the machine in the comment; a line end, or the end of the text, ends it.
 use mathlib.Core.Path.{_∙_}
 use native.Mathlib.Omega.{arith}
 use Rattle.texts.proofs.Steps.{comment-goes-on, comment-ends}

@@ -1,3 +1,4 @@
+-- A digit leads on in the word; another byte refuses the text; a gap, or the end of the text, ends the word.
 use mathlib.Core.Path.{_∙_, sym, ap, refl}
 use Prim.Native.Nat.{_+_}
 use native.Mathlib.Omega.{arith}

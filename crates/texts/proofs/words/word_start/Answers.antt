@@ -1,3 +1,4 @@
+-- Each turn passes a line end, a space or a comment; at any other byte a word begins.
 use mathlib.Core.Path.{_∙_, sym, ap}
 use mathlib.Core.Bool.{true, false}
 use native.Mathlib.Omega.{arith}

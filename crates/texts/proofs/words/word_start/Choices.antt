@@ -1,3 +1,4 @@
+-- What is left, at the beginning of a line or later in it, is read like the text from where it began.
 use Prim.Native.Nat.{_-_, _≤_}
 use mathlib.Core.Path.{_≡_}
 use lib.ListN.{length, drop}

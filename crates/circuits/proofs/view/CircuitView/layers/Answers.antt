@@ -1,6 +1,6 @@
-use mathlib.Core.Path.{_≡_, refl, sym, ap, _∙_}
-use lib.ListN.{length, take, drop}
-use Prim.Native.Nat.{_-_}
+-- The words after the head of a lawful circuit are those of its layers.
+use mathlib.Core.Path.{refl, ap, _∙_}
+use lib.ListN.{drop}
 use Rattle.std.proofs.shelf.Lists.{take-rest}
 use Rattle.circuits.specs.Words.{word, layersOf}
 use Rattle.circuits.specs.Parts.{areLayers}

@@ -1,8 +1,8 @@
-use mathlib.Core.Path.{_≡_, sym, ap, subst, _∙_}
+-- The words are those of whole gates, and each gate takes places that are there.
+use mathlib.Core.Path.{_≡_, sym, subst, _∙_}
 use Prim.Native.Nat.{_^_, _<_}
 use native.Mathlib.Omega.{arith}
 use lib.ListN.{length, getD}
-use Rattle.circuits.specs.Circuit.{Gate}
 use Rattle.circuits.specs.Views.{gateMeant, noGate}
 use Rattle.circuits.specs.Words.{gatesOf}
 use Rattle.circuits.proofs.Parts.{layer-parts, gate-at, gate-fits, Within}

@@ -1,3 +1,4 @@
+-- A layer of a lawful circuit keeps the limit on sizes.
 use mathlib.Core.Path.{refl}
 use Rattle.circuits.proofs.Parts.{layer-parts}
 use Rattle.circuits.proofs.view.LayerView.size.Needs as need

@@ -1,3 +1,4 @@
+-- Copies and inputs together keep the limit.
 use mathlib.Core.Path.{refl}
 use native.Mathlib.Omega.{arith}
 use Rattle.circuits.proofs.Parts.{layers-parts}

@@ -1,3 +1,4 @@
+-- As many layers as the words are read for.
 use mathlib.Core.Path.{sym}
 use Rattle.circuits.proofs.Steps.{length-layersOf}
 use Rattle.circuits.proofs.view.LayersView.count.Needs as need

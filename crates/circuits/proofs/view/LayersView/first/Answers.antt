@@ -1,3 +1,4 @@
+-- The first layer that is split off is lawful, since all of them are.
 use mathlib.Core.Path.{ap, _∙_}
 use Prim.Native.Nat.{_<_}
 use native.Mathlib.Omega.{arith}

@@ -1,3 +1,4 @@
+-- The layers below the first are lawful, since all of them are.
 use mathlib.Core.Path.{refl}
 use native.Mathlib.Omega.{arith}
 use Rattle.circuits.proofs.Parts.{layers-parts, split-rest, split-are-layers}

@@ -1,3 +1,4 @@
+-- The words have the shape of layers within the limits.
 use Rattle.circuits.proofs.Parts.{layers-parts}
 use Rattle.circuits.proofs.view.LayersView.top_size.Needs as need
 

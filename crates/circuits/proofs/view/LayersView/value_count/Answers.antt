@@ -1,5 +1,6 @@
+-- A power of a sum is the product of the powers.
 use mathlib.Core.Path.{ap, _∙_}
-use Prim.Native.Nat.{_+_, _*_, _^_}
+use Prim.Native.Nat.{_*_, _^_}
 use Rattle.std.proofs.shelf.Bits.{pow-add}
 use Rattle.circuits.proofs.view.LayersView.value_count.Needs as need
 

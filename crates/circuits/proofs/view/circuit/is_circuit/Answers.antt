@@ -1,3 +1,4 @@
+-- Within the limits it is left to ask for the shape and for the places.
 use mathlib.Core.Path.{_≡_, refl, _∙_}
 use mathlib.Core.Bool.{Bool, true, false, _&&_}
 use mathlib.Core.List.{List}

@@ -1,3 +1,4 @@
+-- The gap is text, it is what stands after the numbers so far, and these have been written.
 use mathlib.Core.Path.{_≡_}
 use denote.Text.{Utf8}
 use denote.Shadow.{shadow}

@@ -1,3 +1,4 @@
+-- What is written, with the lines of what is left, is the lines of all; what is left grows shorter.
 use lib.ListN.{length}
 use Rattle.texts.proofs.Writing.{Laid}
 use Rattle.texts.proofs.lines.LinesDisplay.fmt.Given as given

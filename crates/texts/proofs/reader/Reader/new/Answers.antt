@@ -1,3 +1,4 @@
+-- All of the text is left, and the theorems on reading hold.
 use mathlib.Core.Path.{refl}
 use Rattle.texts.proofs.LineByLine.{line-by-line as by-line}
 use Rattle.texts.proofs.OneReading.{one-reading as only-one}

@@ -1,3 +1,4 @@
+-- From the machine's steps to the answer: no word, a word that is no number, or a number and what is left.
 use mathlib.Core.Path.{refl}
 use native.Mathlib.Omega.{arith}
 use lib.ListN.{drop}

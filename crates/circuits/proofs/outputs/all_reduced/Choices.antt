@@ -1,7 +1,8 @@
+-- The numbers that are left answer as all of them do.
 use mathlib.Core.Path.{_≡_}
 use lib.ListN.{drop}
 use Rattle.arithmetic.specs.Numbers.{modulo, allReduced}
-use Rattle.circuits.proofs.outputs.check_reduced.Given as given
+use Rattle.circuits.proofs.outputs.all_reduced.Given as given
 
 abbrev pub Inv-loop-word : given.InvT-loop-word
 Inv-loop-word g l =

@@ -1,0 +1,7 @@
+-- What the lines show is the text, and the theorem on reading it again holds.
+use borrow.Author.Needs.{needs}
+use Rattle.texts.proofs.RoundTrip.{round-trip as read-again}
+use Rattle.texts.proofs.written.write_lines.Needs as need
+
+pub returns : need.returns
+returns c = record { text = search needs; round-trip = read-again }
