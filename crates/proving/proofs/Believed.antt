@@ -29,7 +29,7 @@ use Rattle.argument.proofs.Main.{main}
 use Rattle.proving.specs.Proves.{Ready, Answered}
 use Rattle.proving.proofs.OpeningSteps.{circuit-lawful}
 use Rattle.proving.proofs.Splitting.{along-shift}
-use Rattle.proving.proofs.Whole31.{whole31}
+use Rattle.arithmetic.proofs.WholeMersenne.{whole31}
 use Rattle.proving.proofs.Written.{written-honest}
 
 -- tests that all pass

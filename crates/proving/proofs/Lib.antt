@@ -13,7 +13,6 @@ pub mod RoundSteps
 pub mod Telling
 pub mod TableSteps
 pub mod Starting
-pub mod Whole31
 pub mod FrontSteps
 pub mod WeightLists
 pub mod StartsRead
