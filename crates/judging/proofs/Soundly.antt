@@ -11,6 +11,7 @@ use lib.Dec.{T, eqb, leb, lit<}
 use lib.ListN.{length, take, drop, getD}
 use Rattle.std.proofs.shelf.Lists.{take-take, drop-take, drop-drop, length-take-le, getD-append-left, getD-append-right, getD-at}
 use Rattle.std.proofs.shelf.Tests.{le-leb, lt-leb, cond-true, cond-false, cases-order}
+use Rattle.arithmetic.proofs.WholeMersenne.{whole31}
 use Rattle.arithmetic.specs.Numbers.{modulo, allReduced}
 use Rattle.arithmetic.specs.Counting.{indicator}
 use Rattle.arithmetic.proofs.Counting.{sumRows-le}
@@ -164,7 +165,7 @@ cutting-agrees c messages blind coins n h l =
     sym (ap (λ (i : ℕ). getD (answersOf (c .copies) (c .layers) (c .inputs) (messages coins)) (i - firstCoins c) []) long)
 
 pub judges-soundly : (cs vs claimed : List ℕ) → JudgesSoundly cs vs claimed
-judges-soundly cs vs claimed whole lawful-words given stated wrong messages blind =
+judges-soundly cs vs claimed lawful-words given stated wrong messages blind =
     let c = circuitOf cs in
     let N = modulo modulus in
     let f = cutting c messages in
@@ -180,4 +181,4 @@ judges-soundly cs vs claimed whole lawful-words given stated wrong messages blin
     (sumRows-le N (coinsOf c) _ _
     (λ coins r.
     indicator-implies (eqb (judged cs vs claimed (messages coins) coins) 0) (accepts N c vs claimed f coins) (accepted coins))))
-    (main .1 .0 modulus whole (lit< tt) c (circuit-lawful cs lawful-words) vs given claimed stated wrong f)
+    (main .1 .0 modulus whole31 (lit< tt) c (circuit-lawful cs lawful-words) vs given claimed stated wrong f)

@@ -6,7 +6,7 @@ use mathlib.Core.List.{List, [], _∷_}
 use Prim.Native.Nat.{ℕ, _+_, _-_, _*_, _≤_, _^_}
 use lib.Dec.{T, eqb, leb}
 use lib.ListN.{take}
-use Rattle.arithmetic.specs.Numbers.{Whole, modulo}
+use Rattle.arithmetic.specs.Numbers.{modulo}
 use Rattle.arithmetic.specs.Counting.{countRows}
 use Rattle.circuits.specs.Circuit.{Layer, Circuit, sizeBelow, outputSize, outputs}
 use Rattle.circuits.specs.Words.{modulus, circuitOf, isCircuit}
@@ -35,7 +35,7 @@ abbrev pub JudgesSoundly : List ℕ → List ℕ → List ℕ → Type 0
 JudgesSoundly cs vs claimed =
     let c = circuitOf cs in
     let N = modulo modulus in
-    Whole modulus → T (isCircuit cs) → Sized modulus (2 ^ (c .copies + c .inputs)) vs →
+    T (isCircuit cs) → Sized modulus (2 ^ (c .copies + c .inputs)) vs →
     Sized modulus (2 ^ (c .copies + outputSize c)) claimed → (claimed ≡ outputs N c vs → ⊥) →
     (messages : List ℕ → List ℕ) → NoLookAhead c messages →
     countRows N (coinsOf c) (λ coins. eqb (judged cs vs claimed (messages coins) coins) 0) * modulus ≤
