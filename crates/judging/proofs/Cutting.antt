@@ -1,4 +1,4 @@
--- What an array of noughts holds after some numbers were copied to its start.
+-- What an array of zeros holds after some numbers were copied to its start.
 -- The part stands at the start, and all of it is reduced.
 use mathlib.Core.Path.{_≡_, _∙_, ap}
 use mathlib.Core.Bool.{true}

@@ -1,5 +1,5 @@
 // A part of some numbers, in an array of its own that has room for any point.
-// Beyond the part the array holds noughts.
+// Beyond the part the array holds zeros.
 ghost use mathlib.Core.Bool.{true};
 ghost use mathlib.Core.Path.{_≡_};
 ghost use Prim.Native.Nat.{_+_, _≤_};

@@ -18,7 +18,7 @@ use Rattle.argument.specs.Claims as claims
 use Rattle.argument.specs.Argument.{layerCoins}
 use Rattle.judging.specs.Meaning as Meaning
 use Rattle.judging.specs.declared.claim.Share.{Share}
-use Rattle.proving.specs.Provers.{Sound, Heard, SecondLong, claimHeld, copiesOf, belowOf, variablesOf, told}
+use Rattle.proving.specs.Provers.{Sound, Heard, SecondLong, claimHeld, copiesOf, belowOf, variablesOf, history}
 use Rattle.proving.specs.Standing.{claimOn}
 use Rattle.proving.specs.declared.prover.HonestProver.{HonestProver}
 use Rattle.proving.proofs.ProverHears.{Below, heard-below, top-limit}
@@ -32,10 +32,10 @@ pub layers-split : (ls rest : List Layer) (l : Layer) → 0 < length ls → l �
 layers-split ls rest l h el er = drop-more ls 0 noLayer h ∙ sym (ap₂ {C = List Layer} (λ (a : Layer) (b : List Layer). a ∷ b) el er)
 
 module _ (t : HonestProver) (all : t .drawn ≡ variablesOf t) where
-  part-c : take (copiesOf t) (t .point) ≡ take (copiesOf t) (told t)
+  part-c : take (copiesOf t) (t .point) ≡ take (copiesOf t) (history t)
   part-c = sym (take-take (copiesOf t) (t .drawn) (t .point) (omega arith))
 
-  part-x : take (belowOf t) (drop (copiesOf t) (t .point)) ≡ take (belowOf t) (drop (copiesOf t) (told t))
+  part-x : take (belowOf t) (drop (copiesOf t) (t .point)) ≡ take (belowOf t) (drop (copiesOf t) (history t))
   part-x =
       let split : t .drawn ≡ copiesOf t + 2 * belowOf t = all in
       sym
@@ -43,7 +43,7 @@ module _ (t : HonestProver) (all : t .drawn ≡ variablesOf t) where
       ∙ ap (take (belowOf t)) (drop-take (copiesOf t) (2 * belowOf t) (t .point))
       ∙ take-take (belowOf t) (2 * belowOf t) (drop (copiesOf t) (t .point)) (omega arith))
 
-  part-y : take (belowOf t) (drop (copiesOf t + belowOf t) (t .point)) ≡ drop (copiesOf t + belowOf t) (told t)
+  part-y : take (belowOf t) (drop (copiesOf t + belowOf t) (t .point)) ≡ drop (copiesOf t + belowOf t) (history t)
   part-y =
       let split : t .drawn ≡ copiesOf t + belowOf t + belowOf t = omega arith in
       sym (ap (λ (n : ℕ). drop (copiesOf t + belowOf t) (take n (t .point))) split ∙ drop-take (copiesOf t + belowOf t) (belowOf t) (t .point))
@@ -53,22 +53,22 @@ module _ (t : HonestProver) (all : t .drawn ≡ variablesOf t) where
       take a (r .copy) ≡ take a (drop 0 (t .point)) → take b (r .first .point) ≡ take b (drop a (t .point)) →
       take b (second .point) ≡ take b (drop (a + b) (t .point)) →
       claimHeld r ≡
-      claimOn (take (copiesOf t) (told t))
-      (record { factor = 1; point = take (belowOf t) (drop (copiesOf t) (told t)) } ∷
-      record { factor = coin; point = drop (copiesOf t + belowOf t) (told t) } ∷ [])
+      claimOn (take (copiesOf t) (history t))
+      (record { factor = 1; point = take (belowOf t) (drop (copiesOf t) (history t)) } ∷
+      record { factor = coin; point = drop (copiesOf t + belowOf t) (history t) } ∷ [])
   claim-below coin r second es e1 e2 ec ez a b ea eb ic ix iy =
       let size : ℕ = sizeSeen (r .layer) in
-      let C : take (copiesOf r) (r .copy) ≡ take (copiesOf t) (told t) =
+      let C : take (copiesOf r) (r .copy) ≡ take (copiesOf t) (history t) =
       ap (λ (k : ℕ). take k (r .copy)) (ec ∙ sym ea) ∙ ic ∙ ap (λ (k : ℕ). take k (t .point)) ea ∙ part-c in
-      let X : take size (r .first .point) ≡ take (belowOf t) (drop (copiesOf t) (told t)) =
+      let X : take size (r .first .point) ≡ take (belowOf t) (drop (copiesOf t) (history t)) =
       ap (λ (k : ℕ). take k (r .first .point)) (ez ∙ sym eb) ∙ ix ∙ ap₂ (λ (k q : ℕ). take k (drop q (t .point))) eb ea ∙ part-x in
-      let Y : take size (second .point) ≡ drop (copiesOf t + belowOf t) (told t) =
+      let Y : take size (second .point) ≡ drop (copiesOf t + belowOf t) (history t) =
       ap (λ (k : ℕ). take k (second .point)) (ez ∙ sym eb) ∙ iy ∙ ap₂ (λ (k q : ℕ). take k (drop (q + k) (t .point))) eb ea ∙ part-y in
       let make : ℕ → List ℕ → claims.Share ℕ = λ f xs. record { factor = f; point = xs } in
       ap (λ s. claimOn (take (copiesOf r) (r .copy)) (make (r .first .factor) (take size (r .first .point)) ∷ Meaning.others size s)) es
       ∙ ap₂ (λ (d e : List ℕ). claimOn d (make (r .first .factor) e ∷ make (second .factor) (take size (second .point)) ∷ [])) C X
-      ∙ ap₂ (λ (f q : ℕ). claimOn (take (copiesOf t) (told t)) (make f (take (belowOf t) (drop (copiesOf t) (told t))) ∷ make q (take size (second .point)) ∷ [])) e1 e2
-      ∙ ap (λ (e : List ℕ). claimOn (take (copiesOf t) (told t)) (make 1 (take (belowOf t) (drop (copiesOf t) (told t))) ∷ make coin e ∷ [])) Y
+      ∙ ap₂ (λ (f q : ℕ). claimOn (take (copiesOf t) (history t)) (make f (take (belowOf t) (drop (copiesOf t) (history t))) ∷ make q (take size (second .point)) ∷ [])) e1 e2
+      ∙ ap (λ (e : List ℕ). claimOn (take (copiesOf t) (history t)) (make 1 (take (belowOf t) (drop (copiesOf t) (history t))) ∷ make coin e ∷ [])) Y
 
 pub sound-below : (coin : ℕ) (t r : HonestProver) → Sound t → Below coin t r → length (r .copy) ≡ 16 → T (allReduced (modulo modulus) (r .copy)) →
     length (r .first .point) ≡ 16 → SecondLong (r .second) → length (r .point) ≡ 32 → T (allReduced (modulo modulus) (r .point)) → Sound r

@@ -22,7 +22,7 @@ use Rattle.argument.specs.Argument.{firstCoins, layerCoins, firstClaim}
 use Rattle.argument.specs.Honest.{honest, honestFrom}
 use Rattle.argument.specs.Transcript.{layerWords, answerWords}
 use Rattle.judging.specs.Meaning as Meaning
-use Rattle.proving.specs.Provers.{Sound, SecondLong, claimHeld, copiesOf, belowOf, told, speaks, coinsLeft, wordsLeft, Opened}
+use Rattle.proving.specs.Provers.{Sound, SecondLong, claimHeld, copiesOf, belowOf, history, speaks, coinsLeft, wordsLeft, Opened}
 use Rattle.proving.specs.Standing.{claimOn}
 use Rattle.proving.specs.declared.prover.HonestProver.{HonestProver}
 use Rattle.proving.proofs.ProverHears.{top-limit}
@@ -76,7 +76,7 @@ module _ (c : Circuit) (vs coins : List ℕ) (r : HonestProver) (el : c .layers 
   opened-says : (later : List ℕ) → speaks r later ≡ honest (modulo modulus) c vs (z ++ later)
   opened-says later =
       let N = modulo modulus in
-      let nothing : told r ≡ [] = ap (λ (n : ℕ). take n (r .point)) en in
+      let nothing : history r ≡ [] = ap (λ (n : ℕ). take n (r .point)) en in
       let long : length z ≡ firstCoins c = length-take-le (firstCoins c) coins enough in
       let k = claimOn (take (c .copies) z) (record { factor = 1; point = drop (c .copies) z } ∷ []) in
       ap (λ (d : List ℕ). honestFrom N (copiesOf r) (layerSeen (r .layer) ∷ layersSeen (r .rest)) (inputsBelow (r .rest)) (now (r .inputs)) (claimHeld r) (d ++ later)) nothing

@@ -20,11 +20,11 @@ use Rattle.argument.specs.Claims.{Claim}
 use Rattle.argument.specs.Argument.{layerCoins}
 use Rattle.argument.specs.Honest.{honestFrom}
 use Rattle.argument.specs.Transcript.{layerWords}
-use Rattle.proving.specs.Provers.{Sound, Alike, Heard, claimHeld, copiesOf, belowOf, variablesOf, told, answerLength, pushed, withFactor, withValue}
+use Rattle.proving.specs.Provers.{Sound, Alike, Heard, claimHeld, copiesOf, belowOf, variablesOf, history, answerLength, pushed, withFactor, withValue}
 use Rattle.proving.specs.Standing.{claimOn}
 use Rattle.proving.specs.declared.prover.HonestProver.{HonestProver}
 use Rattle.proving.proofs.ProverSays.{says-next}
-use Rattle.proving.proofs.ProverSteps.{told-pushed}
+use Rattle.proving.proofs.ProverSteps.{history-pushed}
 use mathlib.Core.Bool.{true}
 
 -- where a part begins nothing is said or heard
@@ -38,7 +38,7 @@ heard-pushed t s more coin =
     record {
       says = λ later.
           ap (honestFrom (modulo modulus) (copiesOf t) (layerSeen (t .layer) ∷ layersSeen (t .rest)) (inputsBelow (t .rest)) (now (t .inputs)) (claimHeld t))
-          (ap (λ (d : List ℕ). d ++ later) (told-pushed t s more coin) ∙ append-assoc (told t) (coin ∷ []) later);
+          (ap (λ (d : List ℕ). d ++ later) (history-pushed t s more coin) ∙ append-assoc (history t) (coin ∷ []) later);
       coins = omega arith;
       words = ap (λ (n : ℕ). n + layerWords (copiesOf t) (layersSeen (t .rest)) (inputsBelow (t .rest))) four
           ∙ by-length;
@@ -77,27 +77,27 @@ pub record Below (coin : ℕ) (t r : HonestProver) : Type 0 where
   pub size : belowOf r ≡ sizeBelow (layersSeen (r .rest)) (inputsBelow (r .rest))
   pub claim :
       claimHeld r ≡
-      claimOn (take (copiesOf t) (told t))
-      (record { factor = 1; point = take (belowOf t) (drop (copiesOf t) (told t)) } ∷
-      record { factor = coin; point = drop (copiesOf t + belowOf t) (told t) } ∷ [])
+      claimOn (take (copiesOf t) (history t))
+      (record { factor = 1; point = take (belowOf t) (drop (copiesOf t) (history t)) } ∷
+      record { factor = coin; point = drop (copiesOf t + belowOf t) (history t) } ∷ [])
   pub none : r .drawn ≡ 0
 
 pub heard-below : (coin : ℕ) (t r : HonestProver) → Sound t → t .drawn ≡ variablesOf t → Below coin t r → Heard coin t r
 unfolding layerCoins layerWords
 heard-below coin t r s all b =
     let N = modulo modulus in
-    let nothing : told r ≡ [] = ap (λ (n : ℕ). take n (r .point)) (b .none) in
+    let nothing : history r ≡ [] = ap (λ (n : ℕ). take n (r .point)) (b .none) in
     record {
       says = λ later.
           ap (λ (d : List ℕ). honestFrom N (copiesOf r) (layerSeen (r .layer) ∷ layersSeen (r .rest)) (inputsBelow (r .rest)) (now (r .inputs)) (claimHeld r) (d ++ later)) nothing
           ∙ ap₂ (λ (i : ℕ) (k : Claim ℕ). honestFrom N (copiesOf r) (layerSeen (r .layer) ∷ layersSeen (r .rest)) i (now (r .inputs)) k later) (b .inputs) (b .claim)
           ∙ ap₂ (λ (n : ℕ) (vs : List ℕ). honestFrom N n (layerSeen (r .layer) ∷ layersSeen (r .rest)) (inputsBelow (t .rest)) vs
-          (claimOn (take (copiesOf t) (told t))
-          (record { factor = 1; point = take (belowOf t) (drop (copiesOf t) (told t)) } ∷ record { factor = coin; point = drop (copiesOf t + belowOf t) (told t) } ∷ [])) later)
+          (claimOn (take (copiesOf t) (history t))
+          (record { factor = 1; point = take (belowOf t) (drop (copiesOf t) (history t)) } ∷ record { factor = coin; point = drop (copiesOf t + belowOf t) (history t) } ∷ [])) later)
           (b .copies) (b .given)
           ∙ ap (λ (ls : List Layer). honestFrom N (copiesOf t) ls (inputsBelow (t .rest)) (now (t .inputs))
-          (claimOn (take (copiesOf t) (told t))
-          (record { factor = 1; point = take (belowOf t) (drop (copiesOf t) (told t)) } ∷ record { factor = coin; point = drop (copiesOf t + belowOf t) (told t) } ∷ [])) later)
+          (claimOn (take (copiesOf t) (history t))
+          (record { factor = 1; point = take (belowOf t) (drop (copiesOf t) (history t)) } ∷ record { factor = coin; point = drop (copiesOf t + belowOf t) (history t) } ∷ [])) later)
           (sym (b .layers))
           ∙ sym (says-next t s all coin later);
       coins =

@@ -16,19 +16,19 @@ use Rattle.judging.specs.Meaning.{shareMeant, others, sharesMeant}
 use Rattle.judging.specs.Shares.{ShareFits, SecondFits, shareSeen, secondSeen, sharesSeen}
 use Rattle.judging.specs.declared.share.ShareView.{ShareView}
 use Rattle.tables.proofs.ReducedLists.{reduced-take, reduced-drop}
-use Rattle.proving.specs.Provers.{Parts, Sound, Stands, claimHeld, valuesHeld, copiesOf, belowOf, variablesOf, told, pushed, withFactor, withValue}
+use Rattle.proving.specs.Provers.{Parts, Sound, Stands, claimHeld, valuesHeld, copiesOf, belowOf, variablesOf, history, pushed, withFactor, withValue}
 use Rattle.proving.specs.Standing.{CopyTables, LeftTables, RightTables}
 use Rattle.proving.specs.declared.prover.HonestProver.{HonestProver}
 use Rattle.proving.proofs.Gathering.{reduced-set}
 use Rattle.proving.proofs.PartSteps.{parts-on-left, parts-on-right, copies-fixed, parts-at-left, left-fixed, parts-at-right}
 
-pub told-length : (t : HonestProver) → Sound t → length (told t) ≡ t .drawn
-told-length t s =
+pub history-length : (t : HonestProver) → Sound t → length (history t) ≡ t .drawn
+history-length t s =
     let few : t .drawn ≤ length (t .point) = omega (arith, s .within, s .limit-below, s .point-long) in
     length-take-le (t .drawn) (t .point) few
 
-pub told-pushed : (t : HonestProver) → Sound t → t .drawn < variablesOf t → (coin : ℕ) → told (pushed coin t) ≡ told t ++ (coin ∷ [])
-told-pushed t s more coin =
+pub history-pushed : (t : HonestProver) → Sound t → t .drawn < variablesOf t → (coin : ℕ) → history (pushed coin t) ≡ history t ++ (coin ∷ [])
+history-pushed t s more coin =
     let inside : t .drawn < length (t .point) = omega (arith, s .limit-below, s .point-long) in
     take-more-set (t .point) (t .drawn) coin inside
 
@@ -69,7 +69,7 @@ sound-same t s f a =
 -- the stand after a coin, from the tables' parts at the longer point
 pub stands-pushed : (t : HonestProver) → Sound t → t .drawn < variablesOf t → (coin : ℕ) → coin < modulus → (r : HonestProver) → r ≡ pushed coin t →
     (v w h j : List ℕ) → length v ≡ 65536 → length w ≡ 65536 → length h ≡ 65536 → length j ≡ 65536 →
-    Parts 1 1 modulus (layerSeen (t .layer)) (belowOf t) (claimHeld t) (valuesHeld t) (copiesOf t) (told t ++ (coin ∷ [])) (t .factor) (t .«at_x») v w h j →
+    Parts 1 1 modulus (layerSeen (t .layer)) (belowOf t) (claimHeld t) (valuesHeld t) (copiesOf t) (history t ++ (coin ∷ [])) (t .factor) (t .«at_x») v w h j →
     Stands 1 1 r v w h j
 stands-pushed t s more coin small r e v w h j rv rw′ rh rj parts =
     subst (λ (u : HonestProver). Stands 1 1 u v w h j) (sym e)
@@ -80,21 +80,21 @@ stands-pushed t s more coin small r e v w h j rv rw′ rh rj parts =
       parts =
           subst
           (λ (d : List ℕ). Parts 1 1 modulus (layerSeen (t .layer)) (belowOf t) (claimHeld t) (valuesHeld t) (copiesOf t) d (t .factor) (t .«at_x») v w h j)
-          (sym (told-pushed t s more coin)) parts;
+          (sym (history-pushed t s more coin)) parts;
     })
 
 -- ---- where a part begins
 abbrev pub CopiesAt : HonestProver → List ℕ → List ℕ → List ℕ → Type 0
-CopiesAt t v w h = CopyTables modulus (layerSeen (t .layer)) (belowOf t) (claimHeld t) (valuesHeld t) (told t) 0 v w h
+CopiesAt t v w h = CopyTables modulus (layerSeen (t .layer)) (belowOf t) (claimHeld t) (valuesHeld t) (history t) 0 v w h
 
 pub copies-at : (t : HonestProver) (v w h j : List ℕ) → Stands 1 1 t v w h j → t .drawn ≡ copiesOf t → CopiesAt t v w h
 copies-at t v w h j s all =
-    copies-fixed modulus (layerSeen (t .layer)) (belowOf t) (claimHeld t) (valuesHeld t) (copiesOf t) (told t) (t .factor) (t .«at_x») v w h j (s .parts)
-    (told-length t (s .sound) ∙ all)
+    copies-fixed modulus (layerSeen (t .layer)) (belowOf t) (claimHeld t) (valuesHeld t) (copiesOf t) (history t) (t .factor) (t .«at_x») v w h j (s .parts)
+    (history-length t (s .sound) ∙ all)
 
 pub left-settled : (t : HonestProver) (v w h j : List ℕ) → Stands 1 1 t v w h j → t .drawn ≡ copiesOf t → (f : ℕ) (w′ h′ j′ : List ℕ) →
     length w′ ≡ 65536 → length h′ ≡ 65536 → length j′ ≡ 65536 →
-    LeftTables modulus (layerSeen (t .layer)) (belowOf t) (claimHeld t) (valuesHeld t) (told t) [] (belowOf t) f v w′ h′ j′ →
+    LeftTables modulus (layerSeen (t .layer)) (belowOf t) (claimHeld t) (valuesHeld t) (history t) [] (belowOf t) f v w′ h′ j′ →
     Stands 0 1 (withFactor f t) v w′ h′ j′
 left-settled t v w h j s all f w′ h′ j′ rw′ rh rj tables =
     record {
@@ -102,8 +102,8 @@ left-settled t v w h j s all f w′ h′ j′ rw′ rh rj tables =
       rooms = record { room-v = s .rooms .room-v; room-w = rw′; room-h = rh };
       room-j = rj;
       parts =
-          parts-at-left modulus (layerSeen (t .layer)) (belowOf t) (claimHeld t) (valuesHeld t) (copiesOf t) (told t) f (t .«at_x») v w′ h′ j′
-          (told-length t (s .sound) ∙ all) tables;
+          parts-at-left modulus (layerSeen (t .layer)) (belowOf t) (claimHeld t) (valuesHeld t) (copiesOf t) (history t) f (t .«at_x») v w′ h′ j′
+          (history-length t (s .sound) ∙ all) tables;
     }
 
 pub left-passed : (t : HonestProver) (v w h j : List ℕ) → Stands 1 1 t v w h j → (t .drawn ≡ copiesOf t → ⊥) → Stands 0 1 t v w h j
@@ -113,22 +113,22 @@ left-passed t v w h j s other =
       rooms = s .rooms;
       room-j = s .room-j;
       parts =
-          parts-on-left modulus (layerSeen (t .layer)) (belowOf t) (claimHeld t) (valuesHeld t) (copiesOf t) (told t) (t .factor) (t .«at_x») v w h j (s .parts)
-          (λ e. other (sym (told-length t (s .sound)) ∙ e));
+          parts-on-left modulus (layerSeen (t .layer)) (belowOf t) (claimHeld t) (valuesHeld t) (copiesOf t) (history t) (t .factor) (t .«at_x») v w h j (s .parts)
+          (λ e. other (sym (history-length t (s .sound)) ∙ e));
     }
 
 abbrev pub LeftAt : HonestProver → List ℕ → List ℕ → List ℕ → List ℕ → Type 0
 LeftAt t v w h j =
-    LeftTables modulus (layerSeen (t .layer)) (belowOf t) (claimHeld t) (valuesHeld t) (take (copiesOf t) (told t)) (drop (copiesOf t) (told t)) 0 (t .factor) v w h j
+    LeftTables modulus (layerSeen (t .layer)) (belowOf t) (claimHeld t) (valuesHeld t) (take (copiesOf t) (history t)) (drop (copiesOf t) (history t)) 0 (t .factor) v w h j
 
 pub left-at : (t : HonestProver) (v w h j : List ℕ) → Stands 0 1 t v w h j → t .drawn ≡ copiesOf t + belowOf t → LeftAt t v w h j
 left-at t v w h j s all =
-    left-fixed modulus (layerSeen (t .layer)) (belowOf t) (claimHeld t) (valuesHeld t) (copiesOf t) (told t) (t .factor) (t .«at_x») v w h j (s .parts)
-    (told-length t (s .sound) ∙ all)
+    left-fixed modulus (layerSeen (t .layer)) (belowOf t) (claimHeld t) (valuesHeld t) (copiesOf t) (history t) (t .factor) (t .«at_x») v w h j (s .parts)
+    (history-length t (s .sound) ∙ all)
 
 pub right-settled : (t : HonestProver) (v w h j : List ℕ) → Stands 0 1 t v w h j → t .drawn ≡ copiesOf t + belowOf t → (a : ℕ) (v′ w′ h′ j′ : List ℕ) →
     length v′ ≡ 65536 → length w′ ≡ 65536 → length h′ ≡ 65536 → length j′ ≡ 65536 →
-    RightTables modulus (layerSeen (t .layer)) (belowOf t) (claimHeld t) (valuesHeld t) (take (copiesOf t) (told t)) (drop (copiesOf t) (told t)) [] (belowOf t) a v′ h′ j′ →
+    RightTables modulus (layerSeen (t .layer)) (belowOf t) (claimHeld t) (valuesHeld t) (take (copiesOf t) (history t)) (drop (copiesOf t) (history t)) [] (belowOf t) a v′ h′ j′ →
     Stands 0 0 (withValue a t) v′ w′ h′ j′
 right-settled t v w h j s all a v′ w′ h′ j′ rv rw′ rh rj tables =
     record {
@@ -136,8 +136,8 @@ right-settled t v w h j s all a v′ w′ h′ j′ rv rw′ rh rj tables =
       rooms = record { room-v = rv; room-w = rw′; room-h = rh };
       room-j = rj;
       parts =
-          parts-at-right modulus (layerSeen (t .layer)) (belowOf t) (claimHeld t) (valuesHeld t) (copiesOf t) (told t) (t .factor) a v′ w′ h′ j′
-          (told-length t (s .sound) ∙ all) tables;
+          parts-at-right modulus (layerSeen (t .layer)) (belowOf t) (claimHeld t) (valuesHeld t) (copiesOf t) (history t) (t .factor) a v′ w′ h′ j′
+          (history-length t (s .sound) ∙ all) tables;
     }
 
 pub right-passed : (t : HonestProver) (v w h j : List ℕ) → Stands 0 1 t v w h j → (t .drawn ≡ copiesOf t + belowOf t → ⊥) → Stands 0 0 t v w h j
@@ -147,16 +147,16 @@ right-passed t v w h j s other =
       rooms = s .rooms;
       room-j = s .room-j;
       parts =
-          parts-on-right modulus (layerSeen (t .layer)) (belowOf t) (claimHeld t) (valuesHeld t) (copiesOf t) (told t) (t .factor) (t .«at_x») v w h j (s .parts)
-          (λ e. other (sym (told-length t (s .sound)) ∙ e));
+          parts-on-right modulus (layerSeen (t .layer)) (belowOf t) (claimHeld t) (valuesHeld t) (copiesOf t) (history t) (t .factor) (t .«at_x») v w h j (s .parts)
+          (λ e. other (sym (history-length t (s .sound)) ∙ e));
     }
 
--- a layer at its start: no coin is told yet
+-- a layer at its start: no coin is drawn yet
 pub begun : (t : HonestProver) (v w h j : List ℕ) → Sound t → t .drawn ≡ 0 → length v ≡ 65536 → length w ≡ 65536 → length h ≡ 65536 → length j ≡ 65536 →
     CopyTables modulus (layerSeen (t .layer)) (belowOf t) (claimHeld t) (valuesHeld t) [] (copiesOf t) v w h → Stands 1 1 t v w h j
 begun t v w h j s none rv rw′ rh rj tables =
-    let nothing : told t ≡ [] = ap (λ (n : ℕ). take n (t .point)) none in
-    let short : length (told t) ≡ 0 = ap length nothing in
+    let nothing : history t ≡ [] = ap (λ (n : ℕ). take n (t .point)) none in
+    let short : length (history t) ≡ 0 = ap length nothing in
     record {
       sound = s;
       rooms = record { room-v = rv; room-w = rw′; room-h = rh };
@@ -164,8 +164,8 @@ begun t v w h j s none rv rw′ rh rj tables =
       parts =
           record {
             over-copies = λ _.
-                let same : copiesOf t ≡ copiesOf t - length (told t) = omega arith in
-                subst (λ (n : ℕ). CopyTables modulus (layerSeen (t .layer)) (belowOf t) (claimHeld t) (valuesHeld t) (told t) n v w h) same
+                let same : copiesOf t ≡ copiesOf t - length (history t) = omega arith in
+                subst (λ (n : ℕ). CopyTables modulus (layerSeen (t .layer)) (belowOf t) (claimHeld t) (valuesHeld t) (history t) n v w h) same
                 (subst (λ (d : List ℕ). CopyTables modulus (layerSeen (t .layer)) (belowOf t) (claimHeld t) (valuesHeld t) d (copiesOf t) v w h) (sym nothing) tables);
             over-left = λ many _. absurd (omega arith);
             over-right = λ many. absurd (omega arith);
@@ -185,7 +185,7 @@ part-is a b from len xs ea eb =
     ap₂ (λ (i k : ℕ). take i (drop k xs)) n ea
 
 -- x, once all its coins are drawn
-pub x-drawn : (t : HonestProver) → t .drawn ≡ copiesOf t + belowOf t → take (belowOf t) (drop (copiesOf t) (t .point)) ≡ drop (copiesOf t) (told t)
+pub x-drawn : (t : HonestProver) → t .drawn ≡ copiesOf t + belowOf t → take (belowOf t) (drop (copiesOf t) (t .point)) ≡ drop (copiesOf t) (history t)
 x-drawn t e = sym (drop-take (copiesOf t) (belowOf t) (t .point)) ∙ ap (λ (n : ℕ). drop (copiesOf t) (take n (t .point))) (sym e)
 
 pub reduced-middle : (from len : ℕ) (xs : List ℕ) → T (allReduced (modulo modulus) xs) → T (allReduced (modulo modulus) (take len (drop from xs)))

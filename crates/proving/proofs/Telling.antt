@@ -59,21 +59,21 @@ module _ {K : Type 0} (N : Numbers K) where
     abbrev pub afterCopies : List K → Prover K
     afterCopies c = respond N m (λ x. sumCorners N m (λ y. S c x y)) (λ x. afterLeft c x)
 
-    pub told-copies : (c : List K) (n : ℕ) (later : List K) → length c + n ≡ copies →
+    pub history-copies : (c : List K) (n : ℕ) (later : List K) → length c + n ≡ copies →
         honestFrom N copies (l ∷ ls) inputs vs k (c ++ later) ≡
         respond N n (λ z. sumCorners N m (λ x. sumCorners N m (λ y. S (c ++ z) x y))) (λ z. afterCopies (c ++ z)) later
     unfolding honestFrom
-    told-copies c n later e =
+    history-copies c n later e =
         respond-after c n copies (λ c. sumCorners N m (λ x. sumCorners N m (λ y. S c x y))) (λ c. afterCopies c) later e
 
     all-copies : (c later : List K) → length c ≡ copies → honestFrom N copies (l ∷ ls) inputs vs k (c ++ later) ≡ afterCopies c later
     unfolding honestFrom
     all-copies c later e = respond-all c copies (λ c. sumCorners N m (λ x. sumCorners N m (λ y. S c x y))) (λ c. afterCopies c) later e
 
-    pub told-left : (c x : List K) (n : ℕ) (later : List K) → length c ≡ copies → length x + n ≡ m →
+    pub history-left : (c x : List K) (n : ℕ) (later : List K) → length c ≡ copies → length x + n ≡ m →
         honestFrom N copies (l ∷ ls) inputs vs k (c ++ (x ++ later)) ≡
         respond N n (λ z. sumCorners N m (λ y. S c (x ++ z) y)) (λ z. afterLeft c (x ++ z)) later
-    told-left c x n later ec ex =
+    history-left c x n later ec ex =
         all-copies c (x ++ later) ec
         ∙ respond-after x n m (λ x. sumCorners N m (λ y. S c x y)) (λ x. afterLeft c x) later ex
 
@@ -82,25 +82,25 @@ module _ {K : Type 0} (N : Numbers K) where
     all-left c x later ec ex =
         all-copies c (x ++ later) ec ∙ respond-all x m (λ x. sumCorners N m (λ y. S c x y)) (λ x. afterLeft c x) later ex
 
-    pub told-right : (c x y : List K) (n : ℕ) (later : List K) → length c ≡ copies → length x ≡ m → length y + n ≡ m →
+    pub history-right : (c x y : List K) (n : ℕ) (later : List K) → length c ≡ copies → length x ≡ m → length y + n ≡ m →
         honestFrom N copies (l ∷ ls) inputs vs k (c ++ (x ++ (y ++ later))) ≡
         respond N n (λ z. S c x (y ++ z)) (λ z. afterRight c x (y ++ z)) later
-    told-right c x y n later ec ex ey =
+    history-right c x y n later ec ex ey =
         all-left c x (y ++ later) ec ex ∙ respond-after y n m (λ y. S c x y) (λ y. afterRight c x y) later ey
 
-    pub told-all : (c x y later : List K) → length c ≡ copies → length x ≡ m → length y ≡ m →
+    pub history-all : (c x y later : List K) → length c ≡ copies → length x ≡ m → length y ≡ m →
         honestFrom N copies (l ∷ ls) inputs vs k (c ++ (x ++ (y ++ later))) ≡ afterRight c x y later
-    told-all c x y later ec ex ey =
+    history-all c x y later ec ex ey =
         all-left c x (y ++ later) ec ex ∙ respond-all y m (λ y. S c x y) (λ y. afterRight c x y) later ey
 
-    pub told-values : (c x y : List K) → length c ≡ copies → length x ≡ m → length y ≡ m →
+    pub history-values : (c x y : List K) → length c ≡ copies → length x ≡ m → length y ≡ m →
         honestFrom N copies (l ∷ ls) inputs vs k (c ++ (x ++ (y ++ []))) ≡ V (c ++ x) ∷ V (c ++ y) ∷ []
     unfolding twoValues
-    told-values c x y ec ex ey = told-all c x y [] ec ex ey
+    history-values c x y ec ex ey = history-all c x y [] ec ex ey
 
     -- after the coin of the two values the layer below goes on
-    pub told-next : (c x y : List K) (s : K) (later : List K) → length c ≡ copies → length x ≡ m → length y ≡ m →
+    pub history-next : (c x y : List K) (s : K) (later : List K) → length c ≡ copies → length x ≡ m → length y ≡ m →
         honestFrom N copies (l ∷ ls) inputs vs k (c ++ (x ++ (y ++ (s ∷ later)))) ≡
         honestFrom N copies ls inputs vs (claimBelow N c x y (V (c ++ x)) (V (c ++ y)) s) later
     unfolding twoValues
-    told-next c x y s later ec ex ey = told-all c x y (s ∷ later) ec ex ey
+    history-next c x y s later ec ex ey = history-all c x y (s ∷ later) ec ex ey

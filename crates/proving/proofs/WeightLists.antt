@@ -42,15 +42,15 @@ front-same p count new rest e = take-at new rest count e
 pub front-reduced : (p count : ℕ) (new rest : List ℕ) → length new ≡ count → T (allReduced (modulo p) new) → T (allReduced (modulo p) (take count (new ++ rest)))
 front-reduced p count new rest e t = subst (λ (l : List ℕ). T (allReduced (modulo p) l)) (sym (take-at new rest count e)) t
 
--- a front of noughts
-pub noughts-reduced : (p : ℕ) → 0 < p → (n : ℕ) → T (allReduced (modulo p) (replicate n 0))
+-- a front of zeros
+pub zeros-reduced : (p : ℕ) → 0 < p → (n : ℕ) → T (allReduced (modulo p) (replicate n 0))
 unfolding allReduced
-noughts-reduced p h zero = tt
-noughts-reduced p h (suc n) = and-both (ltb 0 p) (allReduced (modulo p) (replicate n 0)) (lt→ltb 0 p h) (noughts-reduced p h n)
+zeros-reduced p h zero = tt
+zeros-reduced p h (suc n) = and-both (ltb 0 p) (allReduced (modulo p) (replicate n 0)) (lt→ltb 0 p h) (zeros-reduced p h n)
 
 -- a cleared front, cut where the checker has its end
 pub cleared : (n count : ℕ) (words : List ℕ) → n ≡ count → take count words ≡ replicate count 0 → take n words ≡ replicate count 0
 cleared n count words e is = ap (λ (k : ℕ). take k words) e ∙ is
 
 pub cleared-reduced : (p : ℕ) → 0 < p → (n count : ℕ) (words : List ℕ) → n ≡ count → take count words ≡ replicate count 0 → T (allReduced (modulo p) (take n words))
-cleared-reduced p h n count words e is = subst (λ (l : List ℕ). T (allReduced (modulo p) l)) (sym (cleared n count words e is)) (noughts-reduced p h count)
+cleared-reduced p h n count words e is = subst (λ (l : List ℕ). T (allReduced (modulo p) l)) (sym (cleared n count words e is)) (zeros-reduced p h count)

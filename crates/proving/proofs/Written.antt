@@ -17,7 +17,7 @@ use Rattle.argument.specs.Argument.{claimBelow, layerCoins}
 use Rattle.argument.specs.Honest.{honestFrom}
 use Rattle.argument.specs.Transcript.{fours, answersOf, answersAlong}
 use Rattle.proving.proofs.Splitting.{along-shift, along-append, fours-length, fours-rest, fours-at}
-use Rattle.proving.proofs.Telling.{told-copies, told-left, told-right, told-values, told-next}
+use Rattle.proving.proofs.Telling.{history-copies, history-left, history-right, history-values, history-next}
 
 module _ (N : Numbers ℕ) where
   respond-four : (n : ℕ) (G : List ℕ → ℕ) (next : List ℕ → Prover ℕ) → 0 < n → length (respond N n G next []) ≡ 4
@@ -51,7 +51,7 @@ module _ (N : Numbers ℕ) where
         let long : length (take i coins) ≡ i = length-take-le i coins (omega arith) in
         let all : length (take i coins) + (copies - i) ≡ copies = omega arith in
         ap (λ (d : List ℕ). length (says d)) (sym (append-nil (take i coins)))
-        ∙ ap length (told-copies N copies l ls inputs vs k (take i coins) (copies - i) [] all) ∙ respond-four (copies - i) _ _ (omega arith)
+        ∙ ap length (history-copies N copies l ls inputs vs k (take i coins) (copies - i) [] all) ∙ respond-four (copies - i) _ _ (omega arith)
 
     in-left : (i : ℕ) → i < m → length (says (c ++ take i (drop copies coins))) ≡ 4
     in-left i h =
@@ -59,7 +59,7 @@ module _ (N : Numbers ℕ) where
         let long : length w ≡ i = length-take-le i (drop copies coins) (omega (arith, length-drop copies coins)) in
         let all : length w + (m - i) ≡ m = omega arith in
         ap (λ (d : List ℕ). length (says (c ++ d))) (sym (append-nil w))
-        ∙ ap length (told-left N copies l ls inputs vs k c w (m - i) [] long-c all) ∙ respond-four (m - i) _ _ (omega arith)
+        ∙ ap length (history-left N copies l ls inputs vs k c w (m - i) [] long-c all) ∙ respond-four (m - i) _ _ (omega arith)
 
     in-right : (i : ℕ) → i < m → length (says (c ++ (x ++ take i (drop m (drop copies coins))))) ≡ 4
     in-right i h =
@@ -67,7 +67,7 @@ module _ (N : Numbers ℕ) where
         let long : length w ≡ i = length-take-le i (drop m (drop copies coins)) (omega (arith, length-drop copies coins, length-drop m (drop copies coins))) in
         let all : length w + (m - i) ≡ m = omega arith in
         ap (λ (d : List ℕ). length (says (c ++ (x ++ d)))) (sym (append-nil w))
-        ∙ ap length (told-right N copies l ls inputs vs k c x w (m - i) [] long-c long-x all) ∙ respond-four (m - i) _ _ (omega arith)
+        ∙ ap length (history-right N copies l ls inputs vs k c x w (m - i) [] long-c long-x all) ∙ respond-four (m - i) _ _ (omega arith)
 
     cut-two : (i : ℕ) → take (copies + i) coins ≡ c ++ take i (drop copies coins)
     cut-two i = take-add copies i coins
@@ -99,7 +99,7 @@ module _ (N : Numbers ℕ) where
         let place : copies + 2 * m ≡ copies + (m + m) = omega arith in
         ap (λ (n : ℕ). length (says (take n coins))) place ∙ ap (λ (d : List ℕ). length (says d)) (cut-three m)
         ∙ ap (λ (d : List ℕ). length (says (c ++ (x ++ d)))) (sym (append-nil y))
-        ∙ ap length (told-values N copies l ls inputs vs k c x y long-c long-x long-y)
+        ∙ ap length (history-values N copies l ls inputs vs k c x y long-c long-x long-y)
 
     abbrev V : List ℕ → ℕ
     V = mle N (allValues N ls (2 ^ inputs) (2 ^ copies) vs)
@@ -122,7 +122,7 @@ module _ (N : Numbers ℕ) where
         ∙ ap (λ (d : List ℕ). c ++ d) (append-assoc x (y ++ (s ∷ [])) later ∙ ap (λ (d : List ℕ). x ++ d) (append-assoc y (s ∷ []) later)) in
         sym
         (ap says (ap (λ (d : List ℕ). d ++ later) whole ∙ joined)
-        ∙ told-next N copies l ls inputs vs k c x y s later long-c long-x long-y)
+        ∙ history-next N copies l ls inputs vs k c x y s later long-c long-x long-y)
 
   -- the words of a layer and of those below it, in three parts
   parts : (copies : ℕ) (ls : List Layer) (inputs : ℕ) (vs : List ℕ) (k : Claim ℕ) (coins : List ℕ) (v rest : ℕ) (below : Prover ℕ) →

@@ -24,15 +24,15 @@ use Rattle.judging.specs.declared.claim.Share.{Share}
 use Rattle.proving.specs.Standing.{claimOn, Rooms, CopyTables, LeftTables, RightTables}
 use Rattle.proving.specs.declared.prover.HonestProver.{HonestProver}
 
--- the tables of the part that the coins `told` have come to
-pub record Parts (i q p : ℕ) (l : Layer) (m : ℕ) (k : Claim ℕ) (X : List ℕ) (copies : ℕ) (told : List ℕ) (factor a : ℕ) (v w h j : List ℕ) : Type 0 where
-  pub over-copies : length told < copies + i → CopyTables p l m k X told (copies - length told) v w h
+-- the tables of the part that the coins `history` have come to
+pub record Parts (i q p : ℕ) (l : Layer) (m : ℕ) (k : Claim ℕ) (X : List ℕ) (copies : ℕ) (history : List ℕ) (factor a : ℕ) (v w h j : List ℕ) : Type 0 where
+  pub over-copies : length history < copies + i → CopyTables p l m k X history (copies - length history) v w h
   pub over-left :
-      copies + i ≤ length told → length told < copies + m + q →
-      LeftTables p l m k X (take copies told) (drop copies told) (copies + m - length told) factor v w h j
+      copies + i ≤ length history → length history < copies + m + q →
+      LeftTables p l m k X (take copies history) (drop copies history) (copies + m - length history) factor v w h j
   pub over-right :
-      copies + m + q ≤ length told →
-      RightTables p l m k X (take copies told) (take m (drop copies told)) (drop (copies + m) told) (copies + 2 * m - length told) a v h j
+      copies + m + q ≤ length history →
+      RightTables p l m k X (take copies history) (take m (drop copies history)) (drop (copies + m) history) (copies + 2 * m - length history) a v h j
 
 abbrev pub copiesOf : HonestProver → ℕ
 copiesOf t = copiesAbove (t .rest)
@@ -52,8 +52,8 @@ valuesHeld t =
     allValues (modulo modulus) (layersSeen (t .rest)) (2 ^ inputsBelow (t .rest)) (2 ^ copiesOf t) (now (t .inputs))
 
 -- the coins of this layer so far
-abbrev pub told : HonestProver → List ℕ
-told t = take (t .drawn) (t .point)
+abbrev pub history : HonestProver → List ℕ
+history t = take (t .drawn) (t .point)
 
 abbrev pub SecondLong : Option Share → Type 0
 SecondLong None = Unit {0}
@@ -79,14 +79,14 @@ pub record Stands (i q : ℕ) (t : HonestProver) (v w h j : List ℕ) : Type 0 w
   pub rooms : Rooms v w h
   pub room-j : length j ≡ 65536
   pub parts :
-      Parts i q modulus (layerSeen (t .layer)) (belowOf t) (claimHeld t) (valuesHeld t) (copiesOf t) (told t) (t .factor) (t .«at_x»)
+      Parts i q modulus (layerSeen (t .layer)) (belowOf t) (claimHeld t) (valuesHeld t) (copiesOf t) (history t) (t .factor) (t .«at_x»)
       v w h j
 
 -- what it says from here on, as a function of the coins to come
 abbrev pub speaks : HonestProver → Prover ℕ
 speaks t later =
     honestFrom (modulo modulus) (copiesOf t) (layerSeen (t .layer) ∷ layersSeen (t .rest)) (inputsBelow (t .rest)) (now (t .inputs))
-    (claimHeld t) (told t ++ later)
+    (claimHeld t) (history t ++ later)
 
 -- how many coins are still to come, and how many words of answers
 abbrev pub coinsLeft : HonestProver → ℕ

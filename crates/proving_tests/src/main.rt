@@ -42,7 +42,7 @@ fn seen(
     count
 }
 
-fn noughts(words: &[u32]) -> bool {
+fn zeros(words: &[u32]) -> bool {
     for word in words {
         if *word != 0 {
             return false;
@@ -75,7 +75,7 @@ fn try_out(
         ran,
         proved,
         judged: VerifierJudge::judge(circuit, inputs, outputs, answers, coins),
-        clear: noughts(&work),
+        clear: zeros(&work),
         seen: seen(circuit, inputs, outputs, answers, coins),
     }
 }

@@ -35,7 +35,7 @@ meantComment cs = numbersIn (later cs)
 abbrev meantWord : ℕ → List ℕ → Option (List ℕ)
 meantWord n cs = before (numberAfter n (firstPiece isSpace (line cs))) (numbersIn (filled (laterPieces isSpace (line cs)) ++ later cs))
 
--- cases of a test, with the test first, so that each case knows what it is told
+-- cases of a test, with the test first, so that each case knows how it came out
 pub by-test : {G : Type 0} (b : Bool) → (b ≡ true → G) → (b ≡ false → G) → G
 by-test b so not-so = ⊎-elim so not-so (cases-bool b)
 

@@ -1,5 +1,5 @@
 -- What is true of texts, in words of their own: what is written is read again, lines may be read one by one, and a text has one reading at most.
--- A reading is told by what a text is made of, with no machine and no order in which to go.
+-- A reading is given by what a text is made of, with no machine and no order in which to go.
 use mathlib.Core.Bool.{Bool, true, false}
 use mathlib.Core.List.{List, [], _∷_, _++_}
 use mathlib.Core.Path.{_≡_}

@@ -1,5 +1,5 @@
 // Reading an answer where the verifier stands, before any coin falls for it.
-// An answer that does not fit is told by its place.
+// An answer that does not fit gives the place where it does not.
 ghost use mathlib.Core.Bool.{true, false};
 ghost use mathlib.Core.Path.{_≡_};
 ghost use Prim.Native.Nat.{_<_, _≤_};

@@ -1,4 +1,4 @@
--- The part is copied to the start of an array of noughts.
+-- The part is copied to the start of an array of zeros.
 use mathlib.Core.Path.{_≡_, refl, sym, _∙_, ap, subst}
 use mathlib.Core.Bool.{true}
 use mathlib.Core.List.{List}
@@ -11,9 +11,9 @@ use Rattle.circuits.specs.Words.{modulus}
 use Rattle.judging.proofs.Cutting.{reduced-part, reduced-rest, reduced-both, front-is}
 use Rattle.judging.proofs.cut.cut.Needs as need
 
-noughts : allReduced (modulo modulus) (replicate 16 0) ≡ true
+zeros : allReduced (modulo modulus) (replicate 16 0) ≡ true
 unfolding allReduced
-noughts = refl
+zeros = refl
 
 pub returns : need.returns
 returns c =
@@ -28,5 +28,5 @@ returns c =
       reduced =
           reduced-both modulus (c .copy-from-slice .last .self) (drop (len - 0) (replicate 16 0))
           (subst (λ (xs : List ℕ). allReduced (modulo modulus) xs ≡ true) (sym copied) (reduced-part modulus from len numbers (c .pre .reduced)))
-          (reduced-rest modulus (len - 0) (replicate 16 0) noughts);
+          (reduced-rest modulus (len - 0) (replicate 16 0) zeros);
     }

@@ -31,7 +31,7 @@ hear-variables-requires c κs =
 pub returns-in-Break-hear-variables : need.returns-in-Break-hear-variables
 returns-in-Break-hear-variables c =
     let p = err-from-errBy (c .from-residual .result) (c .from-residual .ensures .1) in
-    let told = c .in-Break-hear-variables .ensures tt in
+    let history = c .in-Break-hear-variables .ensures tt in
     let v = c .args .verifier .now in
     let n = c .variables-variables .result in
     let ws = c .args .said .now in
@@ -41,21 +41,21 @@ returns-in-Break-hear-variables c =
           rw (p .1, p .2)
           (layer-ends-early (inputsOf v) (standOf v) n ws coins (take (4 * n - 0) ws) (take (n - 0) coins) (c .variables-variables .ensures .value)
           (omega (arith, c .pre .counts .0, c .variables-variables .ensures .value)) (ap (λ (k : ℕ). take k ws) (omega arith))
-          (ap (λ (k : ℕ). take k coins) (omega arith)) _ (told .heard));
-      inputs = told .inputs;
+          (ap (λ (k : ℕ). take k coins) (omega arith)) _ (history .heard));
+      inputs = history .inputs;
     }
 
 pub hear-requires : need.hear-requires
 hear-requires c κs =
-    let told = c .in-Continue-hear-variables .ensures tt in
+    let history = c .in-Continue-hear-variables .ensures tt in
     record {
-      some = omega (arith, ap length (told .heard .1 .layers), c .pre .some);
+      some = omega (arith, ap length (history .heard .1 .layers), c .pre .some);
       word = reduced-at modulus (c .args .coins .now) (T-of-path _ (c .pre .coins)) (c .variables-variables .result) (omega arith);
     }
 
 pub returns : need.returns
 returns c =
-    let told = c .in-Continue-hear-variables .ensures tt in
+    let history = c .in-Continue-hear-variables .ensures tt in
     let v = c .args .verifier .now in
     let n = c .variables-variables .result in
     let ws = c .args .said .now in
@@ -68,7 +68,7 @@ returns c =
     record {
       heard =
           cases-weaker (c .hear .result) (c .hear .ensures .step)
-          (λ _ h. layer-leads (inputsOf v) (standOf v) n ws coins (take (4 * n - 0) ws) (take (n - 0) coins) en ec ef ecs _ _ (take (4 * n + 2 - 4 * n) (drop (4 * n) ws)) (told .heard .0) (told .heard .1) two (h .0) (h .1))
-          (λ verdict h. layer-ends-late (inputsOf v) (standOf v) n ws coins (take (4 * n - 0) ws) (take (n - 0) coins) en ec ef ecs _ (take (4 * n + 2 - 4 * n) (drop (4 * n) ws)) verdict (told .heard .0) two (h .0) (h .1));
-      inputs = c .hear .ensures .inputs ∙ told .inputs;
+          (λ _ h. layer-leads (inputsOf v) (standOf v) n ws coins (take (4 * n - 0) ws) (take (n - 0) coins) en ec ef ecs _ _ (take (4 * n + 2 - 4 * n) (drop (4 * n) ws)) (history .heard .0) (history .heard .1) two (h .0) (h .1))
+          (λ verdict h. layer-ends-late (inputsOf v) (standOf v) n ws coins (take (4 * n - 0) ws) (take (n - 0) coins) en ec ef ecs _ (take (4 * n + 2 - 4 * n) (drop (4 * n) ws)) verdict (history .heard .0) two (h .0) (h .1));
+      inputs = c .hear .ensures .inputs ∙ history .inputs;
     }

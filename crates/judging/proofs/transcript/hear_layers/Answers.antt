@@ -66,7 +66,7 @@ hear-layer-requires c κs =
 pub returns-in-Break-hear-layer : need.returns-in-Break-hear-layer
 returns-in-Break-hear-layer c =
     let p = err-from-errBy (c .from-residual .result) (c .from-residual .ensures .1) in
-    let told = c .in-Break-hear-layer .ensures tt in
+    let history = c .in-Break-hear-layer .ensures tt in
     let t = standOf (c .loop-verifier .verifier) in
     let some = layers-left (t .layers) (c .at-inputs .result) (c .at-inputs .ensures) (c .loop-verifier-test .taken) in
     let n = c .variables-variables .result in
@@ -78,13 +78,13 @@ returns-in-Break-hear-layer c =
           rw (p .1, p .2)
           (walking-ends (c .loop-verifier .inv .0) some _ _ _ (words-cut (c .loop-verifier .said) n (variablesOf t) (c .args .messages .now) en)
           (coins-cut (c .loop-verifier .drawn) n (variablesOf t) (c .args .coins .now) en)
-          (subst (λ (vs : List ℕ). Ends vs t (layerAnswers t part) cs (c .in-Break-hear-layer .field-0 .0)) (c .loop-verifier .inv .1) (told .heard)));
-      inputs = told .inputs ∙ c .loop-verifier .inv .1;
+          (subst (λ (vs : List ℕ). Ends vs t (layerAnswers t part) cs (c .in-Break-hear-layer .field-0 .0)) (c .loop-verifier .inv .1) (history .heard)));
+      inputs = history .inputs ∙ c .loop-verifier .inv .1;
     }
 
 pub loop-verifier-again : need.loop-verifier-again
 loop-verifier-again c =
-    let told = c .in-Continue-hear-layer .ensures tt in
+    let history = c .in-Continue-hear-layer .ensures tt in
     let t = standOf (c .loop-verifier .verifier) in
     let u = standOf (c .hear-layer .last .verifier) in
     let some = layers-left (t .layers) (c .at-inputs .result) (c .at-inputs .ensures) (c .loop-verifier-test .taken) in
@@ -98,8 +98,8 @@ loop-verifier-again c =
     let drawn-on : drawn + n + 1 ≡ drawn + (variablesOf t + 1) = omega (arith, en) in (
       walking-more (c .loop-verifier .inv .0) some u (said + 4 * n + 2) (drawn + n + 1) part cs said-on drawn-on
           (words-cut said n (variablesOf t) (c .args .messages .now) en) (coins-cut drawn n (variablesOf t) (c .args .coins .now) en)
-          (subst (λ (vs : List ℕ). Leads vs t (layerAnswers t part) cs u) (c .loop-verifier .inv .1) (told .heard .0)) (told .heard .1),
-      told .inputs ∙ c .loop-verifier .inv .1,
+          (subst (λ (vs : List ℕ). Leads vs t (layerAnswers t part) cs u) (c .loop-verifier .inv .1) (history .heard .0)) (history .heard .1),
+      history .inputs ∙ c .loop-verifier .inv .1,
     )
 
 pub returns : need.returns

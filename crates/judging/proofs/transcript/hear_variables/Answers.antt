@@ -31,19 +31,19 @@ pub returns-in-Break-hear : need.returns-in-Break-hear
 returns-in-Break-hear c =
     let p = err-from-errBy (c .from-residual .result) (c .from-residual .ensures .1) in
     let i = c .loop-i .i in
-    let told = c .in-Break-hear .ensures tt in
+    let history = c .in-Break-hear .ensures tt in
     record {
-      heard = rw (p .1, p .2) (hearing-ends (c .loop-i .inv .0) (take (4 * i + 4 - 4 * i) (drop (4 * i) (c .args .said .now))) _ (omega arith) (four-words i (c .args .said .now)) (told .step .0) (told .step .1));
-      inputs = told .inputs ∙ c .loop-i .inv .1;
+      heard = rw (p .1, p .2) (hearing-ends (c .loop-i .inv .0) (take (4 * i + 4 - 4 * i) (drop (4 * i) (c .args .said .now))) _ (omega arith) (four-words i (c .args .said .now)) (history .step .0) (history .step .1));
+      inputs = history .inputs ∙ c .loop-i .inv .1;
     }
 
 pub loop-i-again : need.loop-i-again
 loop-i-again c =
     let i = c .loop-i .i in
-    let told = c .in-Continue-hear .ensures tt in (
+    let history = c .in-Continue-hear .ensures tt in (
       hearing-more (c .loop-i .inv .0) _ (take (4 * i + 4 - 4 * i) (drop (4 * i) (c .args .said .now))) (omega arith) (c .pre .counts .0) (four-words i (c .args .said .now))
-          (told .step .0) (told .step .1),
-      told .inputs ∙ c .loop-i .inv .1,
+          (history .step .0) (history .step .1),
+      history .inputs ∙ c .loop-i .inv .1,
     )
 
 pub returns : need.returns

@@ -1,4 +1,4 @@
--- The words that were passed are noughts, and the others are as they were.
+-- The words that were passed are zeros, and the others are as they were.
 use mathlib.Core.Path.{_≡_}
 use lib.ListN.{take, replicate}
 use Rattle.proving.proofs.fronts.clear.Given as given

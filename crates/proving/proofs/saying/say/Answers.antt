@@ -13,10 +13,10 @@ use Rattle.argument.specs.Sumcheck.{respond}
 use Rattle.circuits.specs.Views.{layerSeen}
 use Rattle.circuits.specs.Words.{modulus}
 use Rattle.tables.specs.Multilinear.{mle, sumCorners}
-use Rattle.proving.specs.Provers.{claimHeld, valuesHeld, copiesOf, belowOf, variablesOf, told}
+use Rattle.proving.specs.Provers.{claimHeld, valuesHeld, copiesOf, belowOf, variablesOf, history}
 use Rattle.proving.specs.Standing.{termOf, CopyTables, ProductTables, RightTables}
 use Rattle.proving.proofs.ProverSays.{says-copies, says-left, says-right, says-values}
-use Rattle.proving.proofs.ProverSteps.{told-length}
+use Rattle.proving.proofs.ProverSteps.{history-length}
 use Rattle.proving.proofs.Starting.{last-number}
 use Rattle.proving.proofs.saying.say.Needs as need
 
@@ -27,18 +27,18 @@ pub returns-then-drawn-copies : need.returns-then-drawn-copies
 returns-then-drawn-copies c =
     let t = c .args .prover in
     let s = c .pre in
-    let long = told-length t (s .sound) in
+    let long = history-length t (s .sound) in
     let n : ℕ = c .copies-copies .result - t .drawn in
-    let same : copiesOf t - length (told t) ≡ n = omega arith in
+    let same : copiesOf t - length (history t) ≡ n = omega arith in
     let left : n ≡ copiesOf t - t .drawn = omega arith in
     let tables =
-    subst (λ (i : ℕ). CopyTables modulus (layerSeen (t .layer)) (belowOf t) (claimHeld t) (valuesHeld t) (told t) i (c .args .v .now) (c .args .w .now) (c .args .h .now))
+    subst (λ (i : ℕ). CopyTables modulus (layerSeen (t .layer)) (belowOf t) (claimHeld t) (valuesHeld t) (history t) i (c .args .v .now) (c .args .w .now) (c .args .h .now))
     same (s .parts .over-copies (omega arith)) in
-    let G : List ℕ → ℕ = λ z. sumCorners (modulo modulus) (belowOf t) (λ x. sumCorners (modulo modulus) (belowOf t) (λ y. termOf modulus (layerSeen (t .layer)) (belowOf t) (claimHeld t) (valuesHeld t) (told t ++ z) x y)) in
+    let G : List ℕ → ℕ = λ z. sumCorners (modulo modulus) (belowOf t) (λ x. sumCorners (modulo modulus) (belowOf t) (λ y. termOf modulus (layerSeen (t .layer)) (belowOf t) (claimHeld t) (valuesHeld t) (history t ++ z) x y)) in
     record {
       answer =
           says-copies t (s .sound) (omega arith) (c .copy-answer .result)
-          (λ next. c .copy-answer .ensures .answer (claimHeld t) (valuesHeld t) (told t) tables next ∙ ap (λ (i : ℕ). respond (modulo modulus) i G next []) left);
+          (λ next. c .copy-answer .ensures .answer (claimHeld t) (valuesHeld t) (history t) tables next ∙ ap (λ (i : ℕ). respond (modulo modulus) i G next []) left);
       length = four (t .drawn) (variablesOf t) (length (c .copy-answer .result)) (omega arith) (omega arith);
       reduced = c .copy-answer .ensures .reduced;
     }
@@ -47,12 +47,12 @@ pub returns-then-drawn-copies-2 : need.returns-then-drawn-copies-2
 returns-then-drawn-copies-2 c =
     let t = c .args .prover in
     let s = c .pre in
-    let long = told-length t (s .sound) in
+    let long = history-length t (s .sound) in
     let n : ℕ = c .copies-copies .result + c .size-below-below .result - t .drawn in
-    let same : copiesOf t + belowOf t - length (told t) ≡ n = omega arith in
+    let same : copiesOf t + belowOf t - length (history t) ≡ n = omega arith in
     let left : n ≡ copiesOf t + belowOf t - t .drawn = omega arith in
-    let x : List ℕ = drop (copiesOf t) (told t) in
-    let place : List ℕ = take (copiesOf t) (told t) in
+    let x : List ℕ = drop (copiesOf t) (history t) in
+    let place : List ℕ = take (copiesOf t) (history t) in
     let F : List ℕ → ℕ = λ z. mle (modulo modulus) (valuesHeld t) (place ++ (x ++ z)) in
     let G : List ℕ → ℕ = λ z. sumCorners (modulo modulus) (belowOf t) (λ y. termOf modulus (layerSeen (t .layer)) (belowOf t) (claimHeld t) (valuesHeld t) place (x ++ z) y) in
     let tables =
@@ -69,13 +69,13 @@ pub returns-then-drawn-copies-3 : need.returns-then-drawn-copies-3
 returns-then-drawn-copies-3 c =
     let t = c .args .prover in
     let s = c .pre in
-    let long = told-length t (s .sound) in
+    let long = history-length t (s .sound) in
     let n : ℕ = c .copies-copies .result + 2 * c .size-below-below .result - t .drawn in
-    let same : copiesOf t + 2 * belowOf t - length (told t) ≡ n = omega arith in
+    let same : copiesOf t + 2 * belowOf t - length (history t) ≡ n = omega arith in
     let left : n ≡ copiesOf t + 2 * belowOf t - t .drawn = omega arith in
-    let place : List ℕ = take (copiesOf t) (told t) in
-    let x : List ℕ = take (belowOf t) (drop (copiesOf t) (told t)) in
-    let y : List ℕ = drop (copiesOf t + belowOf t) (told t) in
+    let place : List ℕ = take (copiesOf t) (history t) in
+    let x : List ℕ = take (belowOf t) (drop (copiesOf t) (history t)) in
+    let y : List ℕ = drop (copiesOf t + belowOf t) (history t) in
     let F : List ℕ → ℕ = λ z. mle (modulo modulus) (valuesHeld t) (place ++ (y ++ z)) in
     let G : List ℕ → ℕ = λ z. termOf modulus (layerSeen (t .layer)) (belowOf t) (claimHeld t) (valuesHeld t) place x (y ++ z) in
     let r = c .product-answer-then-drawn-copies-3 .result in
@@ -95,13 +95,13 @@ unfolding allReduced
 returns c =
     let t = c .args .prover in
     let s = c .pre in
-    let long = told-length t (s .sound) in
+    let long = history-length t (s .sound) in
     let within = s .sound .within in
     let all : t .drawn ≡ variablesOf t = omega arith in
-    let place : List ℕ = take (copiesOf t) (told t) in
-    let x : List ℕ = take (belowOf t) (drop (copiesOf t) (told t)) in
-    let y : List ℕ = drop (copiesOf t + belowOf t) (told t) in
-    let none : copiesOf t + 2 * belowOf t - length (told t) ≡ 0 = omega arith in
+    let place : List ℕ = take (copiesOf t) (history t) in
+    let x : List ℕ = take (belowOf t) (drop (copiesOf t) (history t)) in
+    let y : List ℕ = drop (copiesOf t + belowOf t) (history t) in
+    let none : copiesOf t + 2 * belowOf t - length (history t) ≡ 0 = omega arith in
     let tables =
     subst (λ (i : ℕ). RightTables modulus (layerSeen (t .layer)) (belowOf t) (claimHeld t) (valuesHeld t) place x y i (t .«at_x») (c .args .v .now) (c .args .h .now) (c .args .j .now))
     none (s .parts .over-right (omega arith)) in

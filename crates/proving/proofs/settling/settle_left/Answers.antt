@@ -4,7 +4,7 @@ use Prim.Native.Nat.{_^_, _<_}
 use native.Mathlib.Nat.{one-mul}
 use native.Mathlib.Omega.{arith}
 use Rattle.circuits.specs.Words.{modulus}
-use Rattle.proving.specs.Provers.{claimHeld, valuesHeld, belowOf, copiesOf, told}
+use Rattle.proving.specs.Provers.{claimHeld, valuesHeld, belowOf, copiesOf, history}
 use Rattle.proving.proofs.ProverSteps.{copies-at, left-settled}
 use Rattle.proving.proofs.Starting.{last-number}
 use Rattle.proving.proofs.StartsRead.{reduced-end}
@@ -33,5 +33,5 @@ returns-then-prover-copies c =
       stands =
           left-settled t (c .args .v .now) (c .args .w .now) (c .args .h .now) (c .args .j .now) (c .pre) all (c .start-left-factor .result)
           (c .start-left-factor .last .w) (c .start-left-factor .last .h) (c .start-left-factor .last .j) (omega arith) (omega arith) (omega arith)
-          (c .start-left-factor .ensures (claimHeld t) (valuesHeld t) (told t) tables);
+          (c .start-left-factor .ensures (claimHeld t) (valuesHeld t) (history t) tables);
     }

@@ -7,7 +7,7 @@ use lib.ListN.{length, take, drop, length-drop}
 use Rattle.std.proofs.shelf.Lists.{length-take-le}
 use Rattle.circuits.specs.Views.{layerSeen}
 use Rattle.circuits.specs.Words.{modulus}
-use Rattle.proving.specs.Provers.{claimHeld, valuesHeld, belowOf, copiesOf, told}
+use Rattle.proving.specs.Provers.{claimHeld, valuesHeld, belowOf, copiesOf, history}
 use Rattle.proving.specs.Standing.{LeftTables, RightTables}
 use Rattle.proving.proofs.ProverSteps.{left-at, right-settled, shares-held, part-is, x-drawn, reduced-middle, share-fits, second-fits}
 use Rattle.proving.proofs.Starting.{last-number}
@@ -42,11 +42,11 @@ returns-then-prover-copies c =
     let b = c .size-below-below .result in
     let all : t .drawn ≡ copiesOf t + belowOf t = omega arith in
     let x : List ℕ = take (a + b - a) (drop a (t .point)) in
-    let point : x ≡ drop (copiesOf t) (told t) =
+    let point : x ≡ drop (copiesOf t) (history t) =
     part-is a b (copiesOf t) (belowOf t) (t .point) (c .copies-copies .ensures .value) (c .size-below-below .ensures .value) ∙ x-drawn t all in
     let before = left-at t (c .args .v .now) (c .args .w .now) (c .args .h .now) (c .args .j .now) (c .pre) all in
     let shares = shares-held t (c .size-size .result) (c .view-share .result) (c .view-second .result) (c .size-size .ensures .value) (c .view-share .ensures .seen) (c .view-second .ensures .seen) in
-    let place : List ℕ = take (copiesOf t) (told t) in
+    let place : List ℕ = take (copiesOf t) (history t) in
     let after =
     c .start-right-at-x .ensures (claimHeld t) (valuesHeld t) place shares
     (subst (λ (d : List ℕ). LeftTables modulus (layerSeen (t .layer)) (belowOf t) (claimHeld t) (valuesHeld t) place d 0 (t .factor) (c .args .v .now) (c .args .w .now) (c .args .h .now) (c .args .j .now))

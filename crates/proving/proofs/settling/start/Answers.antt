@@ -1,4 +1,4 @@
--- No coin is told yet, and the tables are those of all copies' variables.
+-- No coin is drawn yet, and the tables are those of all copies' variables.
 use mathlib.Core.Path.{_≡_, sym, ap, _∙_}
 use Prim.Native.Nat.{ℕ, _-_, _≤_}
 use native.Mathlib.Nat.{sub-zero}

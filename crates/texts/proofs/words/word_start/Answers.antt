@@ -27,10 +27,10 @@ loop-at-again-then-is-space c = (
 
 pub loop-at-again : need.loop-at-again
 loop-at-again c =
-    let told = c .comment-end-at .ensures in (
+    let history = c .comment-end-at .ensures in (
       omega arith,
-      omega (arith, told .within),
-      told .same ∙ past-hash (c .args .text .now) (c .loop-at .at) (c .loop-at-test .taken) (c .if-byte-eq-HASH .taken) ∙ ap (λ b. readFrom (outside b) (drop (c .loop-at .at) (c .args .text .now))) (sym (c .if-line-start .taken)) ∙ c .loop-at .inv .2,
+      omega (arith, history .within),
+      history .same ∙ past-hash (c .args .text .now) (c .loop-at .at) (c .loop-at-test .taken) (c .if-byte-eq-HASH .taken) ∙ ap (λ b. readFrom (outside b) (drop (c .loop-at .at) (c .args .text .now))) (sym (c .if-line-start .taken)) ∙ c .loop-at .inv .2,
     )
 
 pub returns-after-loop-at : need.returns-after-loop-at

@@ -10,9 +10,9 @@ use Rattle.arithmetic.specs.Numbers.{modulo, allReduced}
 use Rattle.circuits.specs.Words.{modulus}
 use Rattle.judging.proofs.verifier.Verifier.descended.Needs as need
 
-noughts : allReduced (modulo modulus) (replicate 32 0) ≡ true
+zeros : allReduced (modulo modulus) (replicate 32 0) ≡ true
 unfolding allReduced
-noughts = refl
+zeros = refl
 
 pub ghost-result : need.ghost-result
 ghost-result c =
@@ -24,4 +24,4 @@ ghost-result c =
     ap length (c .rest .ensures .layers) ∙ length-drop 1 (layersSeen (v .layers))
     in
     let numbered : v .layer + 1 + length (layersSeen (c .rest .result)) ≤ 32 = omega (arith, v .numbered, c .pre, fewer) in
-    (whole, (v .«inputs_reduced», (numbered, (zero-le, (noughts, (c .args .claim .«total_reduced», tt))))))
+    (whole, (v .«inputs_reduced», (numbered, (zero-le, (zeros, (c .args .claim .«total_reduced», tt))))))

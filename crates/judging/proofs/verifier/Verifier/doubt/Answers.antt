@@ -1,4 +1,4 @@
--- The place is told by what is due.
+-- The place follows from what is due.
 use mathlib.Core.Path.{_≡_}
 use borrow.Author.Needs.{needs}
 use lib.ListN.{length}

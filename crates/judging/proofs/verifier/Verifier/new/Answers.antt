@@ -14,9 +14,9 @@ use Rattle.judging.proofs.Limits.{layers-limit}
 use Rattle.judging.proofs.PointParts.{cut-is, same-start}
 use Rattle.judging.proofs.verifier.Verifier.new.Needs as need
 
-noughts : allReduced (modulo modulus) (replicate 32 0) ≡ true
+zeros : allReduced (modulo modulus) (replicate 32 0) ≡ true
 unfolding allReduced
-noughts = refl
+zeros = refl
 
 pub ghost-result-2 : need.ghost-result-2
 ghost-result-2 c =
@@ -27,7 +27,7 @@ ghost-result-2 c =
     let numbered : 0 + length (layersSeen layers) ≤ 32 =
     omega (arith, ap length (c .layers-layers .ensures .layers), layers-limit (wordsSeen (c .args .circuit)) (c .args .circuit .lawful))
     in
-    (whole, (c .pre .inputs .1, (numbered, (zero-le, (noughts, (c .extension-at-total .ensures .below, tt))))))
+    (whole, (c .pre .inputs .1, (numbered, (zero-le, (zeros, (c .extension-at-total .ensures .below, tt))))))
 
 pub returns : need.returns
 returns c =
