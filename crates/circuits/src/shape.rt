@@ -15,13 +15,34 @@ pub const MOST_BITS: u32 = 16;
 // the word of a product; a sum's is 0
 pub const PRODUCT: u32 = 1;
 
+// the place of each bit: 2^0 to 2^16
+const BIT_PLACES: [usize; 17] = [
+    1,
+    2,
+    4,
+    8,
+    16,
+    32,
+    64,
+    128,
+    256,
+    512,
+    1024,
+    2048,
+    4096,
+    8192,
+    16384,
+    32768,
+    65536,
+];
+
 pub fn power(size: u32) -> usize
     requires { ⌜ size ≤ 16 ⌝ }
     ensures value { λ r. ⌜ r ≡ 2 ^ size ⌝ }
     ensures limit { λ r. ⌜ r ≤ 65536 ⌝ }
     ensures some { λ r. ⌜ 0 < r ⌝ }
 {
-    1 << size
+    BIT_PLACES[size as usize]
 }
 
 fn is_kind(word: u32) -> bool
