@@ -39,14 +39,14 @@ impl Draw {
     }
 }
 
-// The shortest of several runs, in milliseconds.
-fn shortest(mut work: impl FnMut()) -> f64 {
-    let once = |_| {
-        let start = Instant::now();
-        work();
-        start.elapsed().as_secs_f64() * 1000.0
-    };
-    (0..9).map(once).fold(f64::INFINITY, f64::min)
+// How often each piece of work is timed.
+const TURNS: usize = 100;
+
+// Times a piece of work, in milliseconds, and keeps the shortest time so far.
+fn time(shortest: &mut f64, work: impl FnOnce()) {
+    let start = Instant::now();
+    work();
+    *shortest = shortest.min(start.elapsed().as_secs_f64() * 1000.0);
 }
 
 fn measure(copies: u32, size: u32, layers: u32) {
@@ -67,10 +67,14 @@ fn measure(copies: u32, size: u32, layers: u32) {
     let mut work = vec![0; 1 << 18];
 
     let circuit = plain::Circuit::from_words(&words);
-    let plain_run = shortest(|| drop(circuit.values(0, &inputs)));
-    let plain_prove = shortest(|| drop(plain::prove(&circuit, &inputs, &coins)));
-    let run = shortest(|| assert_eq!(proved_run(&words, &inputs, &mut outputs), 0));
-    let prove = shortest(|| assert_eq!(proved_prove(&words, &inputs, &coins, &mut answers, &mut work), 0));
+    // by turns, so that whatever else the machine does falls on all four alike
+    let [mut run, mut prove, mut plain_run, mut plain_prove] = [f64::INFINITY; 4];
+    for _ in 0..TURNS {
+        time(&mut run, || assert_eq!(proved_run(&words, &inputs, &mut outputs), 0));
+        time(&mut plain_run, || drop(circuit.values(0, &inputs)));
+        time(&mut prove, || assert_eq!(proved_prove(&words, &inputs, &coins, &mut answers, &mut work), 0));
+        time(&mut plain_prove, || drop(plain::prove(&circuit, &inputs, &coins)));
+    }
     assert_eq!(outputs, circuit.values(0, &inputs));
     assert_eq!(answers, plain::prove(&circuit, &inputs, &coins));
     println!(
