@@ -8,11 +8,11 @@ use crate::modular::Modular;
 
 // One step of Newton's form: y + (x - i) / (i + 1) rest.
 fn newton_step<M: Modular>(y: u32, i: u32, x: u32, rest: u32) -> u32
-    requires given { (y < modulus) × (x < modulus) }
-    requires rest_below { rest < modulus }
+    requires given { (y < M.modulus) × (x < M.modulus) }
+    requires rest_below { rest < M.modulus }
     requires i_small { i ≤ 2 }
-    ensures value { result ≡ (y + ((((modulo modulus).sub x i) * inverse_modulo modulus (i + 1)) % modulus * rest) % modulus) % modulus }
-    ensures below { result < modulus }
+    ensures value { result ≡ (y + ((((modulo M.modulus).sub x i) * inverse_modulo M.modulus (i + 1)) % M.modulus * rest) % M.modulus) % M.modulus }
+    ensures below { result < M.modulus }
 {
     let n = i as usize + 1;
     M::add(y, M::mul(M::mul(M::sub(x, i), M::inverse(n)), rest))
@@ -20,10 +20,10 @@ fn newton_step<M: Modular>(y: u32, i: u32, x: u32, rest: u32) -> u32
 
 // The value at x of the cubic through the four values.
 pub fn cubic_at<M: Modular>(values: [u32; 4], x: u32) -> u32
-    requires reduced { T (all_reduced (modulo modulus) values) }
-    requires x_below { x < modulus }
-    ensures value { result ≡ interpolate (modulo modulus) values x }
-    ensures below { result < modulus }
+    requires reduced { T (all_reduced (modulo M.modulus) values) }
+    requires x_below { x < M.modulus }
+    ensures value { result ≡ interpolate (modulo M.modulus) values x }
+    ensures below { result < M.modulus }
 {
     let [y0, y1, y2, y3] = values;
     let first = M::sub(y1, y0);

@@ -21,7 +21,7 @@ pub fn check_counts(circuit: CircuitView, inputs: usize, outputs: usize) -> Resu
 }
 
 fn all_reduced<M: Modular>(words: &[u32]) -> bool
-    ensures { result ≡ all_reduced (modulo modulus) words.now }
+    ensures { result ≡ all_reduced (modulo M.modulus) words.now }
 {
     for word in words {
         if !M::is_reduced(*word) {
@@ -32,7 +32,7 @@ fn all_reduced<M: Modular>(words: &[u32]) -> bool
 }
 
 pub fn check_reduced<M: Modular>(words: &[u32]) -> Result<(), Refusal>
-    ensures { RefusedUnless (all_reduced (modulo modulus) words.now) Refusal.NotReduced result }
+    ensures { RefusedUnless (all_reduced (modulo M.modulus) words.now) Refusal.NotReduced result }
 {
     if all_reduced::<M>(words) {
         Ok(())

@@ -23,10 +23,10 @@ pub fn places(variables: u32) -> usize
 fn extension_in<M: Modular>(room: &mut [u32], values: &[u32], point: &[u32]) -> u32
     requires room { length room.old ≡ length values.now }
     requires length { length values.now ≡ 2 ^ length point.now }
-    requires values_reduced { T (all_reduced (modulo modulus) values.now) }
-    requires point_reduced { T (all_reduced (modulo modulus) point.now) }
-    ensures value { result ≡ mle (modulo modulus) values.now point.now }
-    ensures below { result < modulus }
+    requires values_reduced { T (all_reduced (modulo M.modulus) values.now) }
+    requires point_reduced { T (all_reduced (modulo M.modulus) point.now) }
+    ensures value { result ≡ mle (modulo M.modulus) values.now point.now }
+    ensures below { result < M.modulus }
 {
     room.copy_from_slice(values);
     mle_at::<M>(room, point)
@@ -34,10 +34,10 @@ fn extension_in<M: Modular>(room: &mut [u32], values: &[u32], point: &[u32]) -> 
 
 pub fn extension_at<M: Modular>(values: &[u32], point: &[u32]) -> u32
     requires length { (length values.now ≡ 2 ^ length point.now) × (length point.now ≤ 16) }
-    requires values_reduced { T (all_reduced (modulo modulus) values.now) }
-    requires point_reduced { T (all_reduced (modulo modulus) point.now) }
-    ensures value { result ≡ mle (modulo modulus) values.now point.now }
-    ensures below { result < modulus }
+    requires values_reduced { T (all_reduced (modulo M.modulus) values.now) }
+    requires point_reduced { T (all_reduced (modulo M.modulus) point.now) }
+    ensures value { result ≡ mle (modulo M.modulus) values.now point.now }
+    ensures below { result < M.modulus }
 {
     let mut work = [0; MOST_PLACES];
     extension_in::<M>(&mut work[0..values.len()], values, point)

@@ -13,11 +13,11 @@ use tables::halving::fix_first;
 
 // Fixes the first variables at a point, and gives how many numbers are then left, at the start of the table.
 fn fix_variables<M: Modular>(table: &mut [u32], point: &[u32]) -> usize
-    requires reduced { (T (all_reduced (modulo modulus) table.old)) × (T (all_reduced (modulo modulus) point.now)) }
+    requires reduced { (T (all_reduced (modulo M.modulus) table.old)) × (T (all_reduced (modulo M.modulus) point.now)) }
     ensures fits { result ≤ length table.new }
     ensures left { (z : List ℕ) → length table.old ≡ 2 ^ (length point.now + length z) → result ≡ 2 ^ length z }
-    ensures values { (z : List ℕ) → length table.old ≡ 2 ^ (length point.now + length z) → mle (modulo modulus) (take result table.new) z ≡ mle (modulo modulus) table.old (point.now ++ z) }
-    ensures reduced { T (all_reduced (modulo modulus) table.new) }
+    ensures values { (z : List ℕ) → length table.old ≡ 2 ^ (length point.now + length z) → mle (modulo M.modulus) (take result table.new) z ≡ mle (modulo M.modulus) table.old (point.now ++ z) }
+    ensures reduced { T (all_reduced (modulo M.modulus) table.new) }
 {
     let mut len = table.len();
     for r in point {
@@ -30,10 +30,10 @@ fn fix_variables<M: Modular>(table: &mut [u32], point: &[u32]) -> usize
 // Over the values of one copy.
 fn add_shares<M: Modular>(values: &[u32], first: ShareView, second: Option<ShareView>) -> u32
     requires length { (length values.now ≡ 2 ^ length first.point.now) × (length first.point.now ≤ 16) }
-    requires reduced { T (all_reduced (modulo modulus) values.now) }
-    requires first { ShareFits modulus (length first.point.now) first }
-    requires second { SecondFits modulus (length first.point.now) second }
-    ensures { result ≡ share_sum (modulo modulus) values.now [] (shares_seen first.entry second.entry) }
+    requires reduced { T (all_reduced (modulo M.modulus) values.now) }
+    requires first { ShareFits M.modulus (length first.point.now) first }
+    requires second { SecondFits M.modulus (length first.point.now) second }
+    ensures { result ≡ share_sum (modulo M.modulus) values.now [] (shares_seen first.entry second.entry) }
 {
     let value = M::mul(first.factor, extension_at::<M>(values, first.point));
     match second {
@@ -55,10 +55,10 @@ fn sum_shares_in<M: Modular>(
 ) -> u32
     requires room { length room.old ≡ length values.now }
     requires length { (length values.now ≡ 2 ^ (length copy.now + length first.point.now)) × (length first.point.now ≤ 16) }
-    requires reduced { (T (all_reduced (modulo modulus) values.now)) × (T (all_reduced (modulo modulus) copy.now)) }
-    requires first { ShareFits modulus (length first.point.now) first }
-    requires second { SecondFits modulus (length first.point.now) second }
-    ensures { result ≡ share_sum (modulo modulus) values.now copy.now (shares_seen first.entry second.entry) }
+    requires reduced { (T (all_reduced (modulo M.modulus) values.now)) × (T (all_reduced (modulo M.modulus) copy.now)) }
+    requires first { ShareFits M.modulus (length first.point.now) first }
+    requires second { SecondFits M.modulus (length first.point.now) second }
+    ensures { result ≡ share_sum (modulo M.modulus) values.now copy.now (shares_seen first.entry second.entry) }
 {
     room.copy_from_slice(values);
     let left = fix_variables::<M>(room, copy);
@@ -73,10 +73,10 @@ pub fn sum_shares<M: Modular>(
     second: Option<ShareView>,
 ) -> u32
     requires length { (length values.now ≡ 2 ^ (length copy.now + length first.point.now)) × (length copy.now + length first.point.now ≤ 16) }
-    requires reduced { (T (all_reduced (modulo modulus) values.now)) × (T (all_reduced (modulo modulus) copy.now)) }
-    requires first { ShareFits modulus (length first.point.now) first }
-    requires second { SecondFits modulus (length first.point.now) second }
-    ensures { result ≡ share_sum (modulo modulus) values.now copy.now (shares_seen first.entry second.entry) }
+    requires reduced { (T (all_reduced (modulo M.modulus) values.now)) × (T (all_reduced (modulo M.modulus) copy.now)) }
+    requires first { ShareFits M.modulus (length first.point.now) first }
+    requires second { SecondFits M.modulus (length first.point.now) second }
+    ensures { result ≡ share_sum (modulo M.modulus) values.now copy.now (shares_seen first.entry second.entry) }
 {
     let mut work = [0; MOST_PLACES];
     sum_shares_in::<M>(&mut work[0..values.len()], values, copy, first, second)

@@ -19,9 +19,9 @@ const MOST_VALUES: usize = 65536;
 // Fills the room with the values of the first of the layers.
 fn fill<M: Modular>(layers: LayersView, inputs: &[u32], room: &mut [u32])
     requires inputs { length inputs.now ≡ 2 ^ copies_above layers * 2 ^ inputs_below layers }
-    requires reduced { EachBelow modulus inputs.now }
+    requires reduced { EachBelow M.modulus inputs.now }
     requires room { length room.old ≡ 2 ^ copies_above layers * 2 ^ size_below (layers_seen layers) (inputs_below layers) }
-    ensures { room.new ≡ all_values (modulo modulus) (layers_seen layers.entry) (2 ^ inputs_below layers.entry) (2 ^ copies_above layers.entry) inputs.now }
+    ensures { room.new ≡ all_values (modulo M.modulus) (layers_seen layers.entry) (2 ^ inputs_below layers.entry) (2 ^ copies_above layers.entry) inputs.now }
 {
     let mut values = [0; MOST_VALUES];
     let mut spare = [0; MOST_VALUES];

@@ -11,8 +11,8 @@ use arithmetic::modular::Modular;
 use circuits::{Kind, LayerView, LayersView, power};
 
 fn combine<M: Modular>(kind: Kind, a: u32, b: u32) -> u32
-    requires { (a < modulus) × (b < modulus) }
-    ensures { result ≡ combined (modulo modulus) (kind_meant kind) a b }
+    requires { (a < M.modulus) × (b < M.modulus) }
+    ensures { result ≡ combined (modulo M.modulus) (kind_meant kind) a b }
 {
     match kind {
         Kind::Sum => M::add(a, b),
@@ -23,8 +23,8 @@ fn combine<M: Modular>(kind: Kind, a: u32, b: u32) -> u32
 // One copy: the values of a layer's gates over those of what lies below it.
 fn gate_values<M: Modular>(layer: LayerView, below: &[u32], values: &mut [u32])
     requires lengths { (length below.now ≡ 2 ^ places_below layer) × (length values.old ≡ 2 ^ size_seen layer) }
-    requires reduced { EachBelow modulus below.now }
-    ensures { values.new ≡ gate_values (modulo modulus) below.now (gates_seen layer.entry) }
+    requires reduced { EachBelow M.modulus below.now }
+    ensures { values.new ≡ gate_values (modulo M.modulus) below.now (gates_seen layer.entry) }
 {
     for i in 0..values.len() {
         let gate = layer.gate(i);
@@ -36,8 +36,8 @@ fn gate_values<M: Modular>(layer: LayerView, below: &[u32], values: &mut [u32])
 pub fn layer_values<M: Modular>(layer: LayerView, copies: u32, below: &[u32], values: &mut [u32])
     requires limit { copies ≤ 16 }
     requires lengths { (length below.now ≡ 2 ^ copies * 2 ^ places_below layer) × (length values.old ≡ 2 ^ copies * 2 ^ size_seen layer) }
-    requires reduced { EachBelow modulus below.now }
-    ensures { values.new ≡ all_values (modulo modulus) (layer_seen layer.entry ∷ []) (2 ^ places_below layer.entry) (2 ^ copies) below.now }
+    requires reduced { EachBelow M.modulus below.now }
+    ensures { values.new ≡ all_values (modulo M.modulus) (layer_seen layer.entry ∷ []) (2 ^ places_below layer.entry) (2 ^ copies) below.now }
 {
     let places = power(layer.size_below());
     let gates = layer.gate_count();
@@ -62,9 +62,9 @@ pub fn work_out<M: Modular>(
     spare: &mut [u32],
 )
     requires inputs { length inputs.now ≡ 2 ^ copies_above layers * 2 ^ inputs_below layers }
-    requires reduced { EachBelow modulus inputs.now }
+    requires reduced { EachBelow M.modulus inputs.now }
     requires room { (65536 ≤ length values.old) × (65536 ≤ length spare.old) }
-    ensures { take (2 ^ copies_above layers.entry * 2 ^ size_below (layers_seen layers.entry) (inputs_below layers.entry)) values.new ≡ all_values (modulo modulus) (layers_seen layers.entry) (2 ^ inputs_below layers.entry) (2 ^ copies_above layers.entry) inputs.now }
+    ensures { take (2 ^ copies_above layers.entry * 2 ^ size_below (layers_seen layers.entry) (inputs_below layers.entry)) values.new ≡ all_values (modulo M.modulus) (layers_seen layers.entry) (2 ^ inputs_below layers.entry) (2 ^ copies_above layers.entry) inputs.now }
 {
     if layers.count() == 0 {
         values[0..inputs.len()].copy_from_slice(inputs);

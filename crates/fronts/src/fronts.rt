@@ -10,10 +10,10 @@ use tables::halving::fix_first;
 // Fixes the first variable of the table of `count` numbers, which leaves one of half as many.
 pub fn fix_front<M: Modular>(words: &mut [u32], count: usize, r: u32)
     requires within { count ≤ length words.old }
-    requires reduced { T (all_reduced (modulo modulus) (take count words.old)) }
-    requires r_below { r < modulus }
-    ensures front { take (count / 2) words.new ≡ fix_first (modulo modulus) r (take count words.old) }
-    ensures reduced { T (all_reduced (modulo modulus) (take (count / 2) words.new)) }
+    requires reduced { T (all_reduced (modulo M.modulus) (take count words.old)) }
+    requires r_below { r < M.modulus }
+    ensures front { take (count / 2) words.new ≡ fix_first (modulo M.modulus) r (take count words.old) }
+    ensures reduced { T (all_reduced (modulo M.modulus) (take (count / 2) words.new)) }
 {
     fix_first::<M>(&mut words[0..count], r);
 }

@@ -10,10 +10,10 @@ use circuits::{Kind, LayerView};
 
 fn add_at<M: Modular>(table: &mut [u32], place: usize, number: u32)
     requires place { place < length table.old }
-    requires number { number < modulus }
-    requires reduced { T (all_reduced (modulo modulus) table.old) }
-    ensures table { table.new ≡ add_at (modulo modulus) table.old place number }
-    ensures reduced { T (all_reduced (modulo modulus) table.new) }
+    requires number { number < M.modulus }
+    requires reduced { T (all_reduced (modulo M.modulus) table.old) }
+    ensures table { table.new ≡ add_at (modulo M.modulus) table.old place number }
+    ensures reduced { T (all_reduced (modulo M.modulus) table.new) }
 {
     table[place] = M::add(table[place], number);
 }
@@ -28,12 +28,12 @@ fn add_gate<M: Modular>(
     j: &mut [u32],
 )
     requires place { (place < length h.old) × (place < length j.old) }
-    requires below { (weight < modulus) × (other < modulus) }
-    requires reduced { (T (all_reduced (modulo modulus) h.old)) × (T (all_reduced (modulo modulus) j.old)) }
-    ensures h { h.new ≡ add_at (modulo modulus) h.old place (to_product (modulo modulus) (kind_meant kind) weight other) }
-    ensures j { j.new ≡ add_at (modulo modulus) j.old place (to_rest (modulo modulus) (kind_meant kind) weight other) }
-    ensures h_reduced { T (all_reduced (modulo modulus) h.new) }
-    ensures j_reduced { T (all_reduced (modulo modulus) j.new) }
+    requires below { (weight < M.modulus) × (other < M.modulus) }
+    requires reduced { (T (all_reduced (modulo M.modulus) h.old)) × (T (all_reduced (modulo M.modulus) j.old)) }
+    ensures h { h.new ≡ add_at (modulo M.modulus) h.old place (to_product (modulo M.modulus) (kind_meant kind) weight other) }
+    ensures j { j.new ≡ add_at (modulo M.modulus) j.old place (to_rest (modulo M.modulus) (kind_meant kind) weight other) }
+    ensures h_reduced { T (all_reduced (modulo M.modulus) h.new) }
+    ensures j_reduced { T (all_reduced (modulo M.modulus) j.new) }
 {
     let both = M::mul(weight, other);
     match kind {
@@ -56,12 +56,12 @@ pub fn gather_left<M: Modular>(
     requires gates { length weights.now ≡ 2 ^ size_seen layer }
     requires places { length values.now ≡ 2 ^ places_below layer }
     requires room { (length h.old ≡ 2 ^ places_below layer) × (length j.old ≡ 2 ^ places_below layer) }
-    requires given { (T (all_reduced (modulo modulus) weights.now)) × (T (all_reduced (modulo modulus) values.now)) }
-    requires reduced { (T (all_reduced (modulo modulus) h.old)) × (T (all_reduced (modulo modulus) j.old)) }
-    ensures h { h.new ≡ gather_h (modulo modulus) (gates_seen layer.entry) weights.now values.now h.old }
-    ensures j { j.new ≡ gather_j (modulo modulus) (gates_seen layer.entry) weights.now values.now j.old }
-    ensures h_reduced { T (all_reduced (modulo modulus) h.new) }
-    ensures j_reduced { T (all_reduced (modulo modulus) j.new) }
+    requires given { (T (all_reduced (modulo M.modulus) weights.now)) × (T (all_reduced (modulo M.modulus) values.now)) }
+    requires reduced { (T (all_reduced (modulo M.modulus) h.old)) × (T (all_reduced (modulo M.modulus) j.old)) }
+    ensures h { h.new ≡ gather_h (modulo M.modulus) (gates_seen layer.entry) weights.now values.now h.old }
+    ensures j { j.new ≡ gather_j (modulo M.modulus) (gates_seen layer.entry) weights.now values.now j.old }
+    ensures h_reduced { T (all_reduced (modulo M.modulus) h.new) }
+    ensures j_reduced { T (all_reduced (modulo M.modulus) j.new) }
 {
     for i in 0..weights.len() {
         let gate = layer.gate(i);
@@ -73,9 +73,9 @@ pub fn gather_left<M: Modular>(
 pub fn weigh_left<M: Modular>(layer: LayerView, weights: &mut [u32], eq_at_x: &[u32])
     requires gates { length weights.old ≡ 2 ^ size_seen layer }
     requires places { length eq_at_x.now ≡ 2 ^ places_below layer }
-    requires given { (T (all_reduced (modulo modulus) weights.old)) × (T (all_reduced (modulo modulus) eq_at_x.now)) }
-    ensures weights { weights.new ≡ weights_at (modulo modulus) (gates_seen layer.entry) weights.old eq_at_x.now }
-    ensures reduced { T (all_reduced (modulo modulus) weights.new) }
+    requires given { (T (all_reduced (modulo M.modulus) weights.old)) × (T (all_reduced (modulo M.modulus) eq_at_x.now)) }
+    ensures weights { weights.new ≡ weights_at (modulo M.modulus) (gates_seen layer.entry) weights.old eq_at_x.now }
+    ensures reduced { T (all_reduced (modulo M.modulus) weights.new) }
 {
     for i in 0..weights.len() {
         let gate = layer.gate(i);
@@ -93,12 +93,12 @@ pub fn gather_right<M: Modular>(
 )
     requires gates { length weights.now ≡ 2 ^ size_seen layer }
     requires room { (length h.old ≡ 2 ^ places_below layer) × (length j.old ≡ 2 ^ places_below layer) }
-    requires given { (T (all_reduced (modulo modulus) weights.now)) × (value_at_x < modulus) }
-    requires reduced { (T (all_reduced (modulo modulus) h.old)) × (T (all_reduced (modulo modulus) j.old)) }
-    ensures h { h.new ≡ gather_hy (modulo modulus) (gates_seen layer.entry) weights.now value_at_x h.old }
-    ensures j { j.new ≡ gather_jy (modulo modulus) (gates_seen layer.entry) weights.now value_at_x j.old }
-    ensures h_reduced { T (all_reduced (modulo modulus) h.new) }
-    ensures j_reduced { T (all_reduced (modulo modulus) j.new) }
+    requires given { (T (all_reduced (modulo M.modulus) weights.now)) × (value_at_x < M.modulus) }
+    requires reduced { (T (all_reduced (modulo M.modulus) h.old)) × (T (all_reduced (modulo M.modulus) j.old)) }
+    ensures h { h.new ≡ gather_hy (modulo M.modulus) (gates_seen layer.entry) weights.now value_at_x h.old }
+    ensures j { j.new ≡ gather_jy (modulo M.modulus) (gates_seen layer.entry) weights.now value_at_x j.old }
+    ensures h_reduced { T (all_reduced (modulo M.modulus) h.new) }
+    ensures j_reduced { T (all_reduced (modulo M.modulus) j.new) }
 {
     for i in 0..weights.len() {
         let gate = layer.gate(i);
@@ -108,10 +108,10 @@ pub fn gather_right<M: Modular>(
 
 // Each number times the factor.
 pub fn scale<M: Modular>(table: &mut [u32], factor: u32)
-    requires factor { factor < modulus }
-    requires reduced { T (all_reduced (modulo modulus) table.old) }
-    ensures table { table.new ≡ map (λ x. (modulo modulus).mul x factor) table.old }
-    ensures reduced { T (all_reduced (modulo modulus) table.new) }
+    requires factor { factor < M.modulus }
+    requires reduced { T (all_reduced (modulo M.modulus) table.old) }
+    ensures table { table.new ≡ map (λ x. (modulo M.modulus).mul x factor) table.old }
+    ensures reduced { T (all_reduced (modulo M.modulus) table.new) }
 {
     for x in table.iter_mut() {
         *x = M::mul(*x, factor);

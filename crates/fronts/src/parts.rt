@@ -19,9 +19,9 @@ use tables::eq::eq_table;
 // eq of a point at all corners.
 pub fn eq_front<M: Modular>(point: &[u32], words: &mut [u32])
     requires room { 2 ^ length point.now ≤ length words.old }
-    requires reduced { T (all_reduced (modulo modulus) point.now) }
-    ensures front { take (2 ^ length point.now) words.new ≡ eq_table (modulo modulus) point.now }
-    ensures reduced { T (all_reduced (modulo modulus) (take (2 ^ length point.now) words.new)) }
+    requires reduced { T (all_reduced (modulo M.modulus) point.now) }
+    ensures front { take (2 ^ length point.now) words.new ≡ eq_table (modulo M.modulus) point.now }
+    ensures reduced { T (all_reduced (modulo M.modulus) (take (2 ^ length point.now) words.new)) }
 {
     eq_table::<M>(point, words);
 }
@@ -35,20 +35,20 @@ pub fn weigh_front<M: Modular>(
 )
     requires gates { (gates ≡ 2 ^ length first.point.now) × (length first.point.now ≤ 16) }
     requires room { gates ≤ length words.old }
-    requires first { ShareFits modulus (length first.point.now) first }
-    requires second { SecondFits modulus (length first.point.now) second }
-    ensures front { take gates words.new ≡ weights_of (modulo modulus) (length first.entry.point.now) (shares_seen first.entry second.entry) 0 gates }
-    ensures reduced { T (all_reduced (modulo modulus) (take gates words.new)) }
+    requires first { ShareFits M.modulus (length first.point.now) first }
+    requires second { SecondFits M.modulus (length first.point.now) second }
+    ensures front { take gates words.new ≡ weights_of (modulo M.modulus) (length first.entry.point.now) (shares_seen first.entry second.entry) 0 gates }
+    ensures reduced { T (all_reduced (modulo M.modulus) (take gates words.new)) }
 {
     weigh::<M>(first, second, &mut words[0..gates]);
 }
 
 pub fn scale_front<M: Modular>(words: &mut [u32], count: usize, factor: u32)
     requires within { count ≤ length words.old }
-    requires reduced { T (all_reduced (modulo modulus) (take count words.old)) }
-    requires factor { factor < modulus }
-    ensures front { take count words.new ≡ scaled (modulo modulus) factor (take count words.old) }
-    ensures reduced { T (all_reduced (modulo modulus) (take count words.new)) }
+    requires reduced { T (all_reduced (modulo M.modulus) (take count words.old)) }
+    requires factor { factor < M.modulus }
+    ensures front { take count words.new ≡ scaled (modulo M.modulus) factor (take count words.old) }
+    ensures reduced { T (all_reduced (modulo M.modulus) (take count words.new)) }
 {
     scale::<M>(&mut words[0..count], factor);
 }
@@ -63,9 +63,9 @@ pub fn weigh_left_front<M: Modular>(
 )
     requires gates { (gates ≡ 2 ^ size_seen layer) × (gates ≤ length words.old) }
     requires places { (places ≡ 2 ^ places_below layer) × (places ≤ length eq_at_x.now) }
-    requires given { (T (all_reduced (modulo modulus) (take gates words.old))) × (T (all_reduced (modulo modulus) (take places eq_at_x.now))) }
-    ensures front { take gates words.new ≡ weights_at (modulo modulus) (gates_seen layer.entry) (take gates words.old) (take places eq_at_x.now) }
-    ensures reduced { T (all_reduced (modulo modulus) (take gates words.new)) }
+    requires given { (T (all_reduced (modulo M.modulus) (take gates words.old))) × (T (all_reduced (modulo M.modulus) (take places eq_at_x.now))) }
+    ensures front { take gates words.new ≡ weights_at (modulo M.modulus) (gates_seen layer.entry) (take gates words.old) (take places eq_at_x.now) }
+    ensures reduced { T (all_reduced (modulo M.modulus) (take gates words.new)) }
 {
     weigh_left::<M>(layer, &mut words[0..gates], &eq_at_x[0..places]);
 }
@@ -79,14 +79,14 @@ pub fn gather_left_front<M: Modular>(
     h: &mut [u32],
     j: &mut [u32],
 )
-    requires gates { (length weights.now ≡ 2 ^ size_seen layer) × (T (all_reduced (modulo modulus) weights.now)) }
+    requires gates { (length weights.now ≡ 2 ^ size_seen layer) × (T (all_reduced (modulo M.modulus) weights.now)) }
     requires places { (places ≡ 2 ^ places_below layer) × (length values.now ≡ 2 ^ places_below layer) }
     requires room { (places ≤ length h.old) × (places ≤ length j.old) }
-    requires values { T (all_reduced (modulo modulus) values.now) }
-    ensures h { take places h.new ≡ gather_h (modulo modulus) (gates_seen layer.entry) weights.now values.now (replicate places 0) }
-    ensures j { take places j.new ≡ gather_j (modulo modulus) (gates_seen layer.entry) weights.now values.now (replicate places 0) }
-    ensures h_reduced { T (all_reduced (modulo modulus) (take places h.new)) }
-    ensures j_reduced { T (all_reduced (modulo modulus) (take places j.new)) }
+    requires values { T (all_reduced (modulo M.modulus) values.now) }
+    ensures h { take places h.new ≡ gather_h (modulo M.modulus) (gates_seen layer.entry) weights.now values.now (replicate places 0) }
+    ensures j { take places j.new ≡ gather_j (modulo M.modulus) (gates_seen layer.entry) weights.now values.now (replicate places 0) }
+    ensures h_reduced { T (all_reduced (modulo M.modulus) (take places h.new)) }
+    ensures j_reduced { T (all_reduced (modulo M.modulus) (take places j.new)) }
 {
     clear_front(h, places);
     clear_front(j, places);
@@ -102,13 +102,13 @@ pub fn gather_right_front<M: Modular>(
     h: &mut [u32],
     j: &mut [u32],
 )
-    requires gates { (length weights.now ≡ 2 ^ size_seen layer) × (T (all_reduced (modulo modulus) weights.now)) }
-    requires places { (places ≡ 2 ^ places_below layer) × (value_at_x < modulus) }
+    requires gates { (length weights.now ≡ 2 ^ size_seen layer) × (T (all_reduced (modulo M.modulus) weights.now)) }
+    requires places { (places ≡ 2 ^ places_below layer) × (value_at_x < M.modulus) }
     requires room { (places ≤ length h.old) × (places ≤ length j.old) }
-    ensures h { take places h.new ≡ gather_hy (modulo modulus) (gates_seen layer.entry) weights.now value_at_x (replicate places 0) }
-    ensures j { take places j.new ≡ gather_jy (modulo modulus) (gates_seen layer.entry) weights.now value_at_x (replicate places 0) }
-    ensures h_reduced { T (all_reduced (modulo modulus) (take places h.new)) }
-    ensures j_reduced { T (all_reduced (modulo modulus) (take places j.new)) }
+    ensures h { take places h.new ≡ gather_hy (modulo M.modulus) (gates_seen layer.entry) weights.now value_at_x (replicate places 0) }
+    ensures j { take places j.new ≡ gather_jy (modulo M.modulus) (gates_seen layer.entry) weights.now value_at_x (replicate places 0) }
+    ensures h_reduced { T (all_reduced (modulo M.modulus) (take places h.new)) }
+    ensures j_reduced { T (all_reduced (modulo M.modulus) (take places j.new)) }
 {
     clear_front(h, places);
     clear_front(j, places);

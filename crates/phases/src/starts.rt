@@ -33,11 +33,11 @@ pub fn start_copies<M: Modular>(
 )
     requires rooms { Rooms v.old w.old h.old }
     requires below { places_below layer ≡ size_below (layers_seen rest) (inputs_below rest) }
-    requires inputs { (length inputs.now ≡ 2 ^ copies_above rest * 2 ^ inputs_below rest) × (EachBelow modulus inputs.now) }
-    requires copy { (length copy.now ≡ copies_above rest) × (T (all_reduced (modulo modulus) copy.now)) }
-    requires first { ShareFits modulus (size_seen layer) first }
-    requires second { SecondFits modulus (size_seen layer) second }
-    ensures { (k : Claim ℕ) → k.copy ≡ copy.now → k.shares ≡ shares_seen first.entry second.entry → CopyTables modulus (layer_seen layer.entry) (places_below layer.entry) k (all_values (modulo modulus) (layers_seen rest.entry) (2 ^ inputs_below rest.entry) (2 ^ copies_above rest.entry) inputs.now) [] (copies_above rest.entry) v.new w.new h.new }
+    requires inputs { (length inputs.now ≡ 2 ^ copies_above rest * 2 ^ inputs_below rest) × (EachBelow M.modulus inputs.now) }
+    requires copy { (length copy.now ≡ copies_above rest) × (T (all_reduced (modulo M.modulus) copy.now)) }
+    requires first { ShareFits M.modulus (size_seen layer) first }
+    requires second { SecondFits M.modulus (size_seen layer) second }
+    ensures { (k : Claim ℕ) → k.copy ≡ copy.now → k.shares ≡ shares_seen first.entry second.entry → CopyTables M.modulus (layer_seen layer.entry) (places_below layer.entry) k (all_values (modulo M.modulus) (layers_seen rest.entry) (2 ^ inputs_below rest.entry) (2 ^ copies_above rest.entry) inputs.now) [] (copies_above rest.entry) v.new w.new h.new }
 {
     work_out::<M>(rest, inputs, v, h);
     weigh_front::<M>(first, second, w, places(layer.size()));
@@ -53,10 +53,10 @@ pub fn start_left<M: Modular>(
     j: &mut [u32],
 ) -> u32
     requires rooms { (Rooms v.now w.old h.old) × (length j.old ≡ 65536) }
-    requires values { T (all_reduced (modulo modulus) (take (2 ^ places_below layer) v.now)) }
-    requires weights { T (all_reduced (modulo modulus) (take (2 ^ size_seen layer) w.old)) }
-    requires factor { slice_index h.old 0 < modulus }
-    ensures { (k : Claim ℕ) (X c : List ℕ) → CopyTables modulus (layer_seen layer.entry) (places_below layer.entry) k X c 0 v.now w.old h.old → LeftTables modulus (layer_seen layer.entry) (places_below layer.entry) k X c [] (places_below layer.entry) result v.now w.new h.new j.new }
+    requires values { T (all_reduced (modulo M.modulus) (take (2 ^ places_below layer) v.now)) }
+    requires weights { T (all_reduced (modulo M.modulus) (take (2 ^ size_seen layer) w.old)) }
+    requires factor { slice_index h.old 0 < M.modulus }
+    ensures { (k : Claim ℕ) (X c : List ℕ) → CopyTables M.modulus (layer_seen layer.entry) (places_below layer.entry) k X c 0 v.now w.old h.old → LeftTables M.modulus (layer_seen layer.entry) (places_below layer.entry) k X c [] (places_below layer.entry) result v.now w.new h.new j.new }
 {
     let gates = places(layer.size());
     let below = places(layer.size_below());
@@ -80,11 +80,11 @@ pub fn start_right<M: Modular>(
     j: &mut [u32],
 ) -> u32
     requires rooms { (Rooms v.old w.old h.old) × (length j.old ≡ 65536) }
-    requires x { (length x.now ≡ places_below layer) × (T (all_reduced (modulo modulus) x.now)) }
-    requires first { ShareFits modulus (size_seen layer) first }
-    requires second { SecondFits modulus (size_seen layer) second }
-    requires factor { (factor < modulus) × (slice_index v.old 0 < modulus) }
-    ensures { (k : Claim ℕ) (X c : List ℕ) → k.shares ≡ shares_seen first.entry second.entry → LeftTables modulus (layer_seen layer.entry) (places_below layer.entry) k X c x.now 0 factor v.old w.old h.old j.old → RightTables modulus (layer_seen layer.entry) (places_below layer.entry) k X c x.now [] (places_below layer.entry) result v.new h.new j.new }
+    requires x { (length x.now ≡ places_below layer) × (T (all_reduced (modulo M.modulus) x.now)) }
+    requires first { ShareFits M.modulus (size_seen layer) first }
+    requires second { SecondFits M.modulus (size_seen layer) second }
+    requires factor { (factor < M.modulus) × (slice_index v.old 0 < M.modulus) }
+    ensures { (k : Claim ℕ) (X c : List ℕ) → k.shares ≡ shares_seen first.entry second.entry → LeftTables M.modulus (layer_seen layer.entry) (places_below layer.entry) k X c x.now 0 factor v.old w.old h.old j.old → RightTables M.modulus (layer_seen layer.entry) (places_below layer.entry) k X c x.now [] (places_below layer.entry) result v.new h.new j.new }
 {
     let gates = places(layer.size());
     let below = places(layer.size_below());

@@ -25,11 +25,11 @@ pub fn copy_answer<M: Modular>(
 ) -> [u32; 4]
     requires left { (0 < left) × (left + places_below layer ≤ 16) }
     requires rooms { Rooms v.now w.now h.now }
-    requires values { T (all_reduced (modulo modulus) (take (2 ^ left * 2 ^ places_below layer) v.now)) }
-    requires weights { T (all_reduced (modulo modulus) (take (2 ^ size_seen layer) w.now)) }
-    requires eq { T (all_reduced (modulo modulus) (take (2 ^ left) h.now)) }
-    ensures answer { (k : Claim ℕ) (X c : List ℕ) → CopyTables modulus (layer_seen layer.entry) (places_below layer.entry) k X c left v.now w.now h.now → (next : List ℕ → Prover ℕ) → result ≡ respond (modulo modulus) left (λ z. sum_corners (modulo modulus) (places_below layer.entry) (λ x. sum_corners (modulo modulus) (places_below layer.entry) (λ y. term_of modulus (layer_seen layer.entry) (places_below layer.entry) k X (c ++ z) x y))) next [] }
-    ensures reduced { T (all_reduced (modulo modulus) result) }
+    requires values { T (all_reduced (modulo M.modulus) (take (2 ^ left * 2 ^ places_below layer) v.now)) }
+    requires weights { T (all_reduced (modulo M.modulus) (take (2 ^ size_seen layer) w.now)) }
+    requires eq { T (all_reduced (modulo M.modulus) (take (2 ^ left) h.now)) }
+    ensures answer { (k : Claim ℕ) (X c : List ℕ) → CopyTables M.modulus (layer_seen layer.entry) (places_below layer.entry) k X c left v.now w.now h.now → (next : List ℕ → Prover ℕ) → result ≡ respond (modulo M.modulus) left (λ z. sum_corners (modulo M.modulus) (places_below layer.entry) (λ x. sum_corners (modulo M.modulus) (places_below layer.entry) (λ y. term_of M.modulus (layer_seen layer.entry) (places_below layer.entry) k X (c ++ z) x y))) next [] }
+    ensures reduced { T (all_reduced (modulo M.modulus) result) }
 {
     let gates = places(layer.size());
     let below = places(layer.size_below());
@@ -42,10 +42,10 @@ pub fn copy_answer<M: Modular>(
 pub fn copy_coin<M: Modular>(layer: LayerView, left: u32, coin: u32, v: &mut [u32], h: &mut [u32])
     requires left { (0 < left) × (left + places_below layer ≤ 16) }
     requires rooms { (length v.old ≡ 65536) × (length h.old ≡ 65536) }
-    requires coin { coin < modulus }
-    requires values { T (all_reduced (modulo modulus) (take (2 ^ left * 2 ^ places_below layer) v.old)) }
-    requires eq { T (all_reduced (modulo modulus) (take (2 ^ left) h.old)) }
-    ensures { (k : Claim ℕ) (X c w : List ℕ) → CopyTables modulus (layer_seen layer.entry) (places_below layer.entry) k X c left v.old w h.old → CopyTables modulus (layer_seen layer.entry) (places_below layer.entry) k X (c ++ (coin ∷ [])) (left - 1) v.new w h.new }
+    requires coin { coin < M.modulus }
+    requires values { T (all_reduced (modulo M.modulus) (take (2 ^ left * 2 ^ places_below layer) v.old)) }
+    requires eq { T (all_reduced (modulo M.modulus) (take (2 ^ left) h.old)) }
+    ensures { (k : Claim ℕ) (X c w : List ℕ) → CopyTables M.modulus (layer_seen layer.entry) (places_below layer.entry) k X c left v.old w h.old → CopyTables M.modulus (layer_seen layer.entry) (places_below layer.entry) k X (c ++ (coin ∷ [])) (left - 1) v.new w h.new }
 {
     fix_front::<M>(v, places(left + layer.size_below()), coin);
     fix_front::<M>(h, places(left), coin);
@@ -55,9 +55,9 @@ pub fn copy_coin<M: Modular>(layer: LayerView, left: u32, coin: u32, v: &mut [u3
 pub fn product_answer<M: Modular>(left: u32, v: &[u32], h: &[u32], j: &[u32]) -> [u32; 4]
     requires left { (0 < left) × (left ≤ 16) }
     requires rooms { Rooms v.now h.now j.now }
-    requires fronts { Fronts modulus left v.now h.now j.now }
-    ensures answer { (F : List ℕ → ℕ) (G : List ℕ → ℕ) → ProductTables modulus F G left v.now h.now j.now → (next : List ℕ → Prover ℕ) → result ≡ respond (modulo modulus) left G next [] }
-    ensures reduced { T (all_reduced (modulo modulus) result) }
+    requires fronts { Fronts M.modulus left v.now h.now j.now }
+    ensures answer { (F : List ℕ → ℕ) (G : List ℕ → ℕ) → ProductTables M.modulus F G left v.now h.now j.now → (next : List ℕ → Prover ℕ) → result ≡ respond (modulo M.modulus) left G next [] }
+    ensures reduced { T (all_reduced (modulo M.modulus) result) }
 {
     let count = places(left);
     sum_round::<M>(&v[0..count], &h[0..count], &j[0..count])
@@ -67,11 +67,11 @@ pub fn product_answer<M: Modular>(left: u32, v: &[u32], h: &[u32], j: &[u32]) ->
 pub fn product_coin<M: Modular>(left: u32, coin: u32, v: &mut [u32], h: &mut [u32], j: &mut [u32])
     requires left { (0 < left) × (left ≤ 16) }
     requires rooms { Rooms v.old h.old j.old }
-    requires coin { coin < modulus }
-    requires fronts { Fronts modulus left v.old h.old j.old }
-    ensures v { Fixed modulus (left - 1) coin v.old v.new }
-    ensures h { Fixed modulus (left - 1) coin h.old h.new }
-    ensures j { Fixed modulus (left - 1) coin j.old j.new }
+    requires coin { coin < M.modulus }
+    requires fronts { Fronts M.modulus left v.old h.old j.old }
+    ensures v { Fixed M.modulus (left - 1) coin v.old v.new }
+    ensures h { Fixed M.modulus (left - 1) coin h.old h.new }
+    ensures j { Fixed M.modulus (left - 1) coin j.old j.new }
 {
     let count = places(left);
     fix_front::<M>(v, count, coin);

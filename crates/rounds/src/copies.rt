@@ -24,10 +24,10 @@ const NO_SUMS: FourNumbers = FourNumbers {
 };
 
 fn combine_each<M: Modular>(kind: Kind, a: FourNumbers, b: FourNumbers) -> FourNumbers
-    requires a { AllBelow modulus a }
-    requires b { AllBelow modulus b }
-    ensures values { (f h : ℕ → ℕ) → FourOf modulus f a → FourOf modulus h b → FourOf modulus (λ t. combined (modulo modulus) (kind_meant kind) (f t) (h t)) result }
-    ensures below { AllBelow modulus result }
+    requires a { AllBelow M.modulus a }
+    requires b { AllBelow M.modulus b }
+    ensures values { (f h : ℕ → ℕ) → FourOf M.modulus f a → FourOf M.modulus h b → FourOf M.modulus (λ t. combined (modulo M.modulus) (kind_meant kind) (f t) (h t)) result }
+    ensures below { AllBelow M.modulus result }
 {
     match kind {
         Kind::Sum => add_each::<M>(a, b),
@@ -45,12 +45,12 @@ fn add_gate<M: Modular>(
 ) -> FourNumbers
     requires left { (gate.left < length low.now) × (gate.left < length high.now) }
     requires right { (gate.right < length low.now) × (gate.right < length high.now) }
-    requires weight { weight < modulus }
-    requires low { T (all_reduced (modulo modulus) low.now) }
-    requires high { T (all_reduced (modulo modulus) high.now) }
-    requires sums { AllBelow modulus sums }
-    ensures values { (f : ℕ → ℕ) → FourOf modulus f sums → FourOf modulus (λ t. (modulo modulus).add ((modulo modulus).mul weight (gate_on_line (modulo modulus) (gate_meant gate) low.now high.now t)) (f t)) result }
-    ensures below { AllBelow modulus result }
+    requires weight { weight < M.modulus }
+    requires low { T (all_reduced (modulo M.modulus) low.now) }
+    requires high { T (all_reduced (modulo M.modulus) high.now) }
+    requires sums { AllBelow M.modulus sums }
+    ensures values { (f : ℕ → ℕ) → FourOf M.modulus f sums → FourOf M.modulus (λ t. (modulo M.modulus).add ((modulo M.modulus).mul weight (gate_on_line (modulo M.modulus) (gate_meant gate) low.now high.now t)) (f t)) result }
+    ensures below { AllBelow M.modulus result }
 {
     let left = line_values::<M>(low[gate.left], high[gate.left]);
     let right = line_values::<M>(low[gate.right], high[gate.right]);
@@ -60,11 +60,11 @@ fn add_gate<M: Modular>(
 
 // The sums over all gates, from the last to the first, over the lines between two rows.
 fn sum_row<M: Modular>(layer: LayerView, weights: &[u32], low: &[u32], high: &[u32]) -> FourNumbers
-    requires weights { (length weights.now ≡ 2 ^ size_seen layer) × (T (all_reduced (modulo modulus) weights.now)) }
-    requires low { (length low.now ≡ 2 ^ places_below layer) × (T (all_reduced (modulo modulus) low.now)) }
-    requires high { (length high.now ≡ 2 ^ places_below layer) × (T (all_reduced (modulo modulus) high.now)) }
-    ensures values { FourOf modulus (row_sum (modulo modulus) (gates_seen layer.entry) weights.now low.now high.now) result }
-    ensures below { AllBelow modulus result }
+    requires weights { (length weights.now ≡ 2 ^ size_seen layer) × (T (all_reduced (modulo M.modulus) weights.now)) }
+    requires low { (length low.now ≡ 2 ^ places_below layer) × (T (all_reduced (modulo M.modulus) low.now)) }
+    requires high { (length high.now ≡ 2 ^ places_below layer) × (T (all_reduced (modulo M.modulus) high.now)) }
+    ensures values { FourOf M.modulus (row_sum (modulo M.modulus) (gates_seen layer.entry) weights.now low.now high.now) result }
+    ensures below { AllBelow M.modulus result }
 {
     let mut sums = NO_SUMS;
     for i in (0..weights.len()).rev() {
@@ -91,11 +91,11 @@ pub fn sum_copies<M: Modular>(
     values: &[u32],
 ) -> [u32; 4]
     requires places { places ≡ 2 ^ places_below layer }
-    requires weights { (length weights.now ≡ 2 ^ size_seen layer) × (T (all_reduced (modulo modulus) weights.now)) }
-    requires eq { T (all_reduced (modulo modulus) eq.now) }
-    requires values { (length values.now ≡ length eq.now * 2 ^ places_below layer) × (T (all_reduced (modulo modulus) values.now)) }
-    ensures values { (n : ℕ) → length eq.now ≡ 2 ^ suc n → result ≡ four_values (modulo modulus) (λ t. sum_corners (modulo modulus) n (λ z. copy_sum (modulo modulus) (places_below layer.entry) (gates_seen layer.entry) weights.now eq.now values.now (t ∷ z))) }
-    ensures reduced { T (all_reduced (modulo modulus) result) }
+    requires weights { (length weights.now ≡ 2 ^ size_seen layer) × (T (all_reduced (modulo M.modulus) weights.now)) }
+    requires eq { T (all_reduced (modulo M.modulus) eq.now) }
+    requires values { (length values.now ≡ length eq.now * 2 ^ places_below layer) × (T (all_reduced (modulo M.modulus) values.now)) }
+    ensures values { (n : ℕ) → length eq.now ≡ 2 ^ suc n → result ≡ four_values (modulo M.modulus) (λ t. sum_corners (modulo M.modulus) n (λ z. copy_sum (modulo M.modulus) (places_below layer.entry) (gates_seen layer.entry) weights.now eq.now values.now (t ∷ z))) }
+    ensures reduced { T (all_reduced (modulo M.modulus) result) }
 {
     let half = eq.len() / 2;
     let mut sums = NO_SUMS;

@@ -9,10 +9,10 @@ use crate::rounds::FourNumbers;
 use arithmetic::modular::Modular;
 
 pub fn add_each<M: Modular>(a: FourNumbers, b: FourNumbers) -> FourNumbers
-    requires a { AllBelow modulus a }
-    requires b { AllBelow modulus b }
-    ensures values { (f h : ℕ → ℕ) → FourOf modulus f a → FourOf modulus h b → FourOf modulus (λ t. (modulo modulus).add (f t) (h t)) result }
-    ensures below { AllBelow modulus result }
+    requires a { AllBelow M.modulus a }
+    requires b { AllBelow M.modulus b }
+    ensures values { (f h : ℕ → ℕ) → FourOf M.modulus f a → FourOf M.modulus h b → FourOf M.modulus (λ t. (modulo M.modulus).add (f t) (h t)) result }
+    ensures below { AllBelow M.modulus result }
 {
     FourNumbers {
         at0: M::add(a.at0, b.at0),
@@ -23,10 +23,10 @@ pub fn add_each<M: Modular>(a: FourNumbers, b: FourNumbers) -> FourNumbers
 }
 
 pub fn mul_each<M: Modular>(a: FourNumbers, b: FourNumbers) -> FourNumbers
-    requires a { AllBelow modulus a }
-    requires b { AllBelow modulus b }
-    ensures values { (f h : ℕ → ℕ) → FourOf modulus f a → FourOf modulus h b → FourOf modulus (λ t. (modulo modulus).mul (f t) (h t)) result }
-    ensures below { AllBelow modulus result }
+    requires a { AllBelow M.modulus a }
+    requires b { AllBelow M.modulus b }
+    ensures values { (f h : ℕ → ℕ) → FourOf M.modulus f a → FourOf M.modulus h b → FourOf M.modulus (λ t. (modulo M.modulus).mul (f t) (h t)) result }
+    ensures below { AllBelow M.modulus result }
 {
     FourNumbers {
         at0: M::mul(a.at0, b.at0),
@@ -37,10 +37,10 @@ pub fn mul_each<M: Modular>(a: FourNumbers, b: FourNumbers) -> FourNumbers
 }
 
 pub fn scale_each<M: Modular>(factor: u32, a: FourNumbers) -> FourNumbers
-    requires factor { factor < modulus }
-    requires a { AllBelow modulus a }
-    ensures values { (f : ℕ → ℕ) → FourOf modulus f a → FourOf modulus (λ t. (modulo modulus).mul factor (f t)) result }
-    ensures below { AllBelow modulus result }
+    requires factor { factor < M.modulus }
+    requires a { AllBelow M.modulus a }
+    ensures values { (f : ℕ → ℕ) → FourOf M.modulus f a → FourOf M.modulus (λ t. (modulo M.modulus).mul factor (f t)) result }
+    ensures below { AllBelow M.modulus result }
 {
     FourNumbers {
         at0: M::mul(factor, a.at0),

@@ -20,9 +20,9 @@ pub struct FourNumbers {
 
 // The values of the line through a at 0 and b at 1. Each after b is a step further, which takes no multiplication.
 pub fn line_values<M: Modular>(a: u32, b: u32) -> FourNumbers
-    requires { (a < modulus) × (b < modulus) }
-    ensures values { listed result ≡ four_values (modulo modulus) (λ t. line_at (modulo modulus) a b t) }
-    ensures below { AllBelow modulus result }
+    requires { (a < M.modulus) × (b < M.modulus) }
+    ensures values { listed result ≡ four_values (modulo M.modulus) (λ t. line_at (modulo M.modulus) a b t) }
+    ensures below { AllBelow M.modulus result }
 {
     let step = M::sub(b, a);
     let at2 = M::add(b, step);
@@ -35,11 +35,11 @@ pub fn line_values<M: Modular>(a: u32, b: u32) -> FourNumbers
 }
 
 fn with_product<M: Modular>(total: u32, v: u32, h: u32, j: u32) -> u32
-    requires total { total < modulus }
-    requires values { (v < modulus) × (h < modulus) }
-    requires rest { j < modulus }
-    ensures value { result ≡ with_product (modulo modulus) total v h j }
-    ensures below { result < modulus }
+    requires total { total < M.modulus }
+    requires values { (v < M.modulus) × (h < M.modulus) }
+    requires rest { j < M.modulus }
+    ensures value { result ≡ with_product (modulo M.modulus) total v h j }
+    ensures below { result < M.modulus }
 {
     M::add(total, M::add(M::mul(v, h), j))
 }
@@ -51,15 +51,15 @@ fn with_products<M: Modular>(
     h: FourNumbers,
     j: FourNumbers,
 ) -> FourNumbers
-    requires sums { AllBelow modulus sums }
-    requires v { AllBelow modulus v }
-    requires h { AllBelow modulus h }
-    requires j { AllBelow modulus j }
-    ensures value0 { result.at0 ≡ with_product (modulo modulus) sums.at0 v.at0 h.at0 j.at0 }
-    ensures value1 { result.at1 ≡ with_product (modulo modulus) sums.at1 v.at1 h.at1 j.at1 }
-    ensures value2 { result.at2 ≡ with_product (modulo modulus) sums.at2 v.at2 h.at2 j.at2 }
-    ensures value3 { result.at3 ≡ with_product (modulo modulus) sums.at3 v.at3 h.at3 j.at3 }
-    ensures below { AllBelow modulus result }
+    requires sums { AllBelow M.modulus sums }
+    requires v { AllBelow M.modulus v }
+    requires h { AllBelow M.modulus h }
+    requires j { AllBelow M.modulus j }
+    ensures value0 { result.at0 ≡ with_product (modulo M.modulus) sums.at0 v.at0 h.at0 j.at0 }
+    ensures value1 { result.at1 ≡ with_product (modulo M.modulus) sums.at1 v.at1 h.at1 j.at1 }
+    ensures value2 { result.at2 ≡ with_product (modulo M.modulus) sums.at2 v.at2 h.at2 j.at2 }
+    ensures value3 { result.at3 ≡ with_product (modulo M.modulus) sums.at3 v.at3 h.at3 j.at3 }
+    ensures below { AllBelow M.modulus result }
 {
     FourNumbers {
         at0: with_product::<M>(sums.at0, v.at0, h.at0, j.at0),
@@ -73,11 +73,11 @@ fn with_products<M: Modular>(
 pub fn sum_round<M: Modular>(v: &[u32], h: &[u32], j: &[u32]) -> [u32; 4]
     requires h_length { length h.now ≡ length v.now }
     requires j_length { length j.now ≡ length v.now }
-    requires v_reduced { T (all_reduced (modulo modulus) v.now) }
-    requires h_reduced { T (all_reduced (modulo modulus) h.now) }
-    requires j_reduced { T (all_reduced (modulo modulus) j.now) }
-    ensures values { (n : ℕ) → length v.now ≡ 2 ^ suc n → result ≡ four_values (modulo modulus) (λ t. sum_corners (modulo modulus) n (λ z. product_sum (modulo modulus) v.now h.now j.now (t ∷ z))) }
-    ensures reduced { T (all_reduced (modulo modulus) result) }
+    requires v_reduced { T (all_reduced (modulo M.modulus) v.now) }
+    requires h_reduced { T (all_reduced (modulo M.modulus) h.now) }
+    requires j_reduced { T (all_reduced (modulo M.modulus) j.now) }
+    ensures values { (n : ℕ) → length v.now ≡ 2 ^ suc n → result ≡ four_values (modulo M.modulus) (λ t. sum_corners (modulo M.modulus) n (λ z. product_sum (modulo M.modulus) v.now h.now j.now (t ∷ z))) }
+    ensures reduced { T (all_reduced (modulo M.modulus) result) }
 {
     let half = v.len() / 2;
     let mut sums = FourNumbers {

@@ -9,9 +9,9 @@ use arithmetic::modular::Modular;
 
 // One variable's factor: r c + (1 - r) (1 - c).
 fn eq_factor<M: Modular>(r: u32, c: u32) -> u32
-    requires { (r < modulus) × (c < modulus) }
-    ensures value { result ≡ eq_factor (modulo modulus) r c }
-    ensures below { result < modulus }
+    requires { (r < M.modulus) × (c < M.modulus) }
+    ensures value { result ≡ eq_factor (modulo M.modulus) r c }
+    ensures below { result < M.modulus }
 {
     M::add(M::mul(r, c), M::mul(M::sub(1, r), M::sub(1, c)))
 }
@@ -19,10 +19,10 @@ fn eq_factor<M: Modular>(r: u32, c: u32) -> u32
 // The eq polynomial of two points.
 pub fn eq_at<M: Modular>(a: &[u32], b: &[u32]) -> u32
     requires length { length a.now ≡ length b.now }
-    requires a_reduced { T (all_reduced (modulo modulus) a.now) }
-    requires b_reduced { T (all_reduced (modulo modulus) b.now) }
-    ensures value { result ≡ eq_poly (modulo modulus) a.now b.now }
-    ensures below { result < modulus }
+    requires a_reduced { T (all_reduced (modulo M.modulus) a.now) }
+    requires b_reduced { T (all_reduced (modulo M.modulus) b.now) }
+    ensures value { result ≡ eq_poly (modulo M.modulus) a.now b.now }
+    ensures below { result < M.modulus }
 {
     let mut product = 1;
     for i in (0..a.len()).rev() {
@@ -34,9 +34,9 @@ pub fn eq_at<M: Modular>(a: &[u32], b: &[u32]) -> u32
 // Splits each number e of the first half into e - e r, in its place, and e r, at the same place of the second half.
 fn split_first<M: Modular>(table: &mut [u32], r: u32)
     requires even { length table.old % 2 ≡ 0 }
-    requires reduced { T (all_reduced (modulo modulus) (take (length table.old / 2) table.old)) }
-    requires r_below { r < modulus }
-    ensures { table.new ≡ split_first (modulo modulus) r (take (length table.old / 2) table.old) }
+    requires reduced { T (all_reduced (modulo M.modulus) (take (length table.old / 2) table.old)) }
+    requires r_below { r < M.modulus }
+    ensures { table.new ≡ split_first (modulo M.modulus) r (take (length table.old / 2) table.old) }
 {
     let half = table.len() / 2;
     for i in 0..half {
@@ -51,10 +51,10 @@ fn split_first<M: Modular>(table: &mut [u32], r: u32)
 // The last variable comes first, since each one before it is a higher bit and splits the whole of what is there.
 pub fn eq_table_scaled<M: Modular>(factor: u32, point: &[u32], out: &mut [u32])
     requires room { 2 ^ length point.now ≤ length out.old }
-    requires factor_below { factor < modulus }
-    requires point_reduced { T (all_reduced (modulo modulus) point.now) }
-    ensures words { out.new ≡ scaled_eq_table (modulo modulus) factor point.now ++ drop (2 ^ length point.now) out.old }
-    ensures reduced { T (all_reduced (modulo modulus) (scaled_eq_table (modulo modulus) factor point.now)) }
+    requires factor_below { factor < M.modulus }
+    requires point_reduced { T (all_reduced (modulo M.modulus) point.now) }
+    ensures words { out.new ≡ scaled_eq_table (modulo M.modulus) factor point.now ++ drop (2 ^ length point.now) out.old }
+    ensures reduced { T (all_reduced (modulo M.modulus) (scaled_eq_table (modulo M.modulus) factor point.now)) }
 {
     out[0] = factor;
     let mut len = 1;
@@ -67,9 +67,9 @@ pub fn eq_table_scaled<M: Modular>(factor: u32, point: &[u32], out: &mut [u32])
 // At each place of the first 2^k, eq of the place's bits and the point. What lies beyond stays as it was.
 pub fn eq_table<M: Modular>(point: &[u32], out: &mut [u32])
     requires room { 2 ^ length point.now ≤ length out.old }
-    requires point_reduced { T (all_reduced (modulo modulus) point.now) }
-    ensures words { out.new ≡ eq_table (modulo modulus) point.now ++ drop (2 ^ length point.now) out.old }
-    ensures reduced { T (all_reduced (modulo modulus) (eq_table (modulo modulus) point.now)) }
+    requires point_reduced { T (all_reduced (modulo M.modulus) point.now) }
+    ensures words { out.new ≡ eq_table (modulo M.modulus) point.now ++ drop (2 ^ length point.now) out.old }
+    ensures reduced { T (all_reduced (modulo M.modulus) (eq_table (modulo M.modulus) point.now)) }
 {
     eq_table_scaled::<M>(1, point, out);
 }

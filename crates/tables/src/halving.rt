@@ -9,20 +9,20 @@ use arithmetic::modular::Modular;
 
 // (1 - r) a + r b as a + r (b - a), which has one multiplication in place of two.
 fn at_line<M: Modular>(a: u32, b: u32, r: u32) -> u32
-    requires a_lt_modulus { (a < modulus) × (b < modulus) }
-    requires r_lt_modulus { r < modulus }
-    ensures value { result ≡ on_line (modulo modulus) r a b }
-    ensures below { result < modulus }
+    requires a_lt_modulus { (a < M.modulus) × (b < M.modulus) }
+    requires r_lt_modulus { r < M.modulus }
+    ensures value { result ≡ on_line (modulo M.modulus) r a b }
+    ensures below { result < M.modulus }
 {
     M::add(a, M::mul(r, M::sub(b, a)))
 }
 
 // Fixes the first variable at r. The second half stays as it was.
 pub fn fix_first<M: Modular>(table: &mut [u32], r: u32)
-    requires reduced { T (all_reduced (modulo modulus) table.old) }
-    requires r_below { r < modulus }
-    ensures words { table.new ≡ fix_first (modulo modulus) r table.old ++ drop (length table.old / 2) table.old }
-    ensures reduced { T (all_reduced (modulo modulus) table.new) }
+    requires reduced { T (all_reduced (modulo M.modulus) table.old) }
+    requires r_below { r < M.modulus }
+    ensures words { table.new ≡ fix_first (modulo M.modulus) r table.old ++ drop (length table.old / 2) table.old }
+    ensures reduced { T (all_reduced (modulo M.modulus) table.new) }
 {
     let half = table.len() / 2;
     for i in 0..half {
@@ -33,12 +33,12 @@ pub fn fix_first<M: Modular>(table: &mut [u32], r: u32)
 // The value at a point of the table's multilinear extension. The table is used up: `halved_all` says what it then holds.
 pub fn mle_at<M: Modular>(table: &mut [u32], point: &[u32]) -> u32
     requires length { length table.old ≡ 2 ^ length point.now }
-    requires reduced { T (all_reduced (modulo modulus) table.old) }
-    requires point_reduced { T (all_reduced (modulo modulus) point.now) }
-    ensures value { result ≡ mle (modulo modulus) table.old point.now }
-    ensures below { result < modulus }
-    ensures words { table.new ≡ halved_all (modulo modulus) table.old point.now }
-    ensures reduced { T (all_reduced (modulo modulus) table.new) }
+    requires reduced { T (all_reduced (modulo M.modulus) table.old) }
+    requires point_reduced { T (all_reduced (modulo M.modulus) point.now) }
+    ensures value { result ≡ mle (modulo M.modulus) table.old point.now }
+    ensures below { result < M.modulus }
+    ensures words { table.new ≡ halved_all (modulo M.modulus) table.old point.now }
+    ensures reduced { T (all_reduced (modulo M.modulus) table.new) }
 {
     let mut len = table.len();
     for i in 0..point.len() {

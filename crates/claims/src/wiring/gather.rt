@@ -13,11 +13,11 @@ use circuits::{Kind, LayerView};
 
 // One gate's term more, on the side of its kind.
 fn add_term<M: Modular>(kind: Kind, term: u32, gathered: Wiring) -> Wiring
-    requires term { term < modulus }
-    requires gathered { (gathered.sums < modulus) × (gathered.products < modulus) }
-    ensures sums { result.sums ≡ ((if same_kind sum (kind_meant kind) then term else 0) + gathered.sums) % modulus }
-    ensures products { result.products ≡ ((if same_kind product (kind_meant kind) then term else 0) + gathered.products) % modulus }
-    ensures below { (result.sums < modulus) × (result.products < modulus) }
+    requires term { term < M.modulus }
+    requires gathered { (gathered.sums < M.modulus) × (gathered.products < M.modulus) }
+    ensures sums { result.sums ≡ ((if same_kind sum (kind_meant kind) then term else 0) + gathered.sums) % M.modulus }
+    ensures products { result.products ≡ ((if same_kind product (kind_meant kind) then term else 0) + gathered.products) % M.modulus }
+    ensures below { (result.sums < M.modulus) × (result.products < M.modulus) }
 {
     match kind {
         Kind::Sum => Wiring {
@@ -32,10 +32,10 @@ fn add_term<M: Modular>(kind: Kind, term: u32, gathered: Wiring) -> Wiring
 }
 
 pub fn gather<M: Modular>(layer: LayerView, weights: &[u32], at_x: &[u32], at_y: &[u32]) -> Wiring
-    requires weights { (length weights.now ≡ 2 ^ size_seen layer) × (T (all_reduced (modulo modulus) weights.now)) }
-    requires at_x { (length at_x.now ≡ 2 ^ places_below layer) × (T (all_reduced (modulo modulus) at_x.now)) }
-    requires at_y { (length at_y.now ≡ 2 ^ places_below layer) × (T (all_reduced (modulo modulus) at_y.now)) }
-    ensures { Gathered modulus weights.now at_x.now at_y.now (gates_seen layer.entry) 0 result }
+    requires weights { (length weights.now ≡ 2 ^ size_seen layer) × (T (all_reduced (modulo M.modulus) weights.now)) }
+    requires at_x { (length at_x.now ≡ 2 ^ places_below layer) × (T (all_reduced (modulo M.modulus) at_x.now)) }
+    requires at_y { (length at_y.now ≡ 2 ^ places_below layer) × (T (all_reduced (modulo M.modulus) at_y.now)) }
+    ensures { Gathered M.modulus weights.now at_x.now at_y.now (gates_seen layer.entry) 0 result }
 {
     let mut gathered = Wiring {
         sums: 0,

@@ -26,11 +26,11 @@ fn wire_in<M: Modular>(
     at_x: &mut [u32],
     at_y: &mut [u32],
 ) -> Wiring
-    requires weights { (length weights.now ≡ 2 ^ size_seen layer) × (T (all_reduced (modulo modulus) weights.now)) }
-    requires x { (length x.now ≡ places_below layer) × (T (all_reduced (modulo modulus) x.now)) }
-    requires y { (length y.now ≡ places_below layer) × (T (all_reduced (modulo modulus) y.now)) }
+    requires weights { (length weights.now ≡ 2 ^ size_seen layer) × (T (all_reduced (modulo M.modulus) weights.now)) }
+    requires x { (length x.now ≡ places_below layer) × (T (all_reduced (modulo M.modulus) x.now)) }
+    requires y { (length y.now ≡ places_below layer) × (T (all_reduced (modulo M.modulus) y.now)) }
     requires room { (length at_x.old ≡ 2 ^ places_below layer) × (length at_y.old ≡ 2 ^ places_below layer) }
-    ensures { Wired modulus weights.now (places_below layer.entry) x.now y.now (gates_seen layer.entry) result }
+    ensures { Wired M.modulus weights.now (places_below layer.entry) x.now y.now (gates_seen layer.entry) result }
 {
     eq_table::<M>(x, at_x);
     eq_table::<M>(y, at_y);
@@ -38,10 +38,10 @@ fn wire_in<M: Modular>(
 }
 
 fn wire<M: Modular>(layer: LayerView, weights: &[u32], x: &[u32], y: &[u32]) -> Wiring
-    requires weights { (length weights.now ≡ 2 ^ size_seen layer) × (T (all_reduced (modulo modulus) weights.now)) }
-    requires x { (length x.now ≡ places_below layer) × (T (all_reduced (modulo modulus) x.now)) }
-    requires y { (length y.now ≡ places_below layer) × (T (all_reduced (modulo modulus) y.now)) }
-    ensures { Wired modulus weights.now (places_below layer.entry) x.now y.now (gates_seen layer.entry) result }
+    requires weights { (length weights.now ≡ 2 ^ size_seen layer) × (T (all_reduced (modulo M.modulus) weights.now)) }
+    requires x { (length x.now ≡ places_below layer) × (T (all_reduced (modulo M.modulus) x.now)) }
+    requires y { (length y.now ≡ places_below layer) × (T (all_reduced (modulo M.modulus) y.now)) }
+    ensures { Wired M.modulus weights.now (places_below layer.entry) x.now y.now (gates_seen layer.entry) result }
 {
     let mut at_x = [0; MOST_PLACES];
     let mut at_y = [0; MOST_PLACES];
@@ -65,14 +65,14 @@ fn wire_shares_in<M: Modular>(
     y: &[u32],
     weights: &mut [u32],
 ) -> Wiring
-    requires first { ShareFits modulus (size_seen layer) first }
-    requires second { SecondFits modulus (size_seen layer) second }
-    requires x { (length x.now ≡ places_below layer) × (T (all_reduced (modulo modulus) x.now)) }
-    requires y { (length y.now ≡ places_below layer) × (T (all_reduced (modulo modulus) y.now)) }
+    requires first { ShareFits M.modulus (size_seen layer) first }
+    requires second { SecondFits M.modulus (size_seen layer) second }
+    requires x { (length x.now ≡ places_below layer) × (T (all_reduced (modulo M.modulus) x.now)) }
+    requires y { (length y.now ≡ places_below layer) × (T (all_reduced (modulo M.modulus) y.now)) }
     requires room { (length weights.old ≡ 2 ^ size_seen layer) × (size_seen layer ≤ 16) }
-    ensures sums { result.sums ≡ shared_wiring (modulo modulus) sum (layer_seen layer.entry) (places_below layer.entry) (shares_seen first.entry second.entry) x.now y.now }
-    ensures products { result.products ≡ shared_wiring (modulo modulus) product (layer_seen layer.entry) (places_below layer.entry) (shares_seen first.entry second.entry) x.now y.now }
-    ensures below { (result.sums < modulus) × (result.products < modulus) }
+    ensures sums { result.sums ≡ shared_wiring (modulo M.modulus) sum (layer_seen layer.entry) (places_below layer.entry) (shares_seen first.entry second.entry) x.now y.now }
+    ensures products { result.products ≡ shared_wiring (modulo M.modulus) product (layer_seen layer.entry) (places_below layer.entry) (shares_seen first.entry second.entry) x.now y.now }
+    ensures below { (result.sums < M.modulus) × (result.products < M.modulus) }
 {
     weigh::<M>(first, second, weights);
     wire::<M>(layer, weights, x, y)
@@ -86,13 +86,13 @@ pub fn wire_shares<M: Modular>(
     x: &[u32],
     y: &[u32],
 ) -> Wiring
-    requires first { ShareFits modulus (size_seen layer) first }
-    requires second { SecondFits modulus (size_seen layer) second }
-    requires x { (length x.now ≡ places_below layer) × (T (all_reduced (modulo modulus) x.now)) }
-    requires y { (length y.now ≡ places_below layer) × (T (all_reduced (modulo modulus) y.now)) }
-    ensures sums { result.sums ≡ shared_wiring (modulo modulus) sum (layer_seen layer.entry) (places_below layer.entry) (shares_seen first.entry second.entry) x.now y.now }
-    ensures products { result.products ≡ shared_wiring (modulo modulus) product (layer_seen layer.entry) (places_below layer.entry) (shares_seen first.entry second.entry) x.now y.now }
-    ensures below { (result.sums < modulus) × (result.products < modulus) }
+    requires first { ShareFits M.modulus (size_seen layer) first }
+    requires second { SecondFits M.modulus (size_seen layer) second }
+    requires x { (length x.now ≡ places_below layer) × (T (all_reduced (modulo M.modulus) x.now)) }
+    requires y { (length y.now ≡ places_below layer) × (T (all_reduced (modulo M.modulus) y.now)) }
+    ensures sums { result.sums ≡ shared_wiring (modulo M.modulus) sum (layer_seen layer.entry) (places_below layer.entry) (shares_seen first.entry second.entry) x.now y.now }
+    ensures products { result.products ≡ shared_wiring (modulo M.modulus) product (layer_seen layer.entry) (places_below layer.entry) (shares_seen first.entry second.entry) x.now y.now }
+    ensures below { (result.sums < M.modulus) × (result.products < M.modulus) }
 {
     let mut weights = [0; MOST_PLACES];
     let gates = power(layer.size());

@@ -13,9 +13,9 @@ use tables::eq::eq_table_scaled;
 
 fn add_tables<M: Modular>(table: &mut [u32], other: &[u32])
     requires length { length table.old ≡ length other.now }
-    requires reduced { (T (all_reduced (modulo modulus) table.old)) × (T (all_reduced (modulo modulus) other.now)) }
-    ensures sums { (i : ℕ) → i < length table.old → slice_index table.new i ≡ (slice_index table.old i + slice_index other.now i) % modulus }
-    ensures reduced { T (all_reduced (modulo modulus) table.new) }
+    requires reduced { (T (all_reduced (modulo M.modulus) table.old)) × (T (all_reduced (modulo M.modulus) other.now)) }
+    ensures sums { (i : ℕ) → i < length table.old → slice_index table.new i ≡ (slice_index table.old i + slice_index other.now i) % M.modulus }
+    ensures reduced { T (all_reduced (modulo M.modulus) table.new) }
 {
     for i in 0..table.len() {
         table[i] = M::add(table[i], other[i]);
@@ -25,10 +25,10 @@ fn add_tables<M: Modular>(table: &mut [u32], other: &[u32])
 // One share more: its factor times eq at each gate's corner and its point.
 fn add_share<M: Modular>(factor: u32, point: &[u32], room: &mut [u32], weights: &mut [u32])
     requires lengths { (length room.old ≡ 2 ^ length point.now) × (length weights.old ≡ 2 ^ length point.now) }
-    requires factor_below { factor < modulus }
-    requires reduced { (T (all_reduced (modulo modulus) point.now)) × (T (all_reduced (modulo modulus) weights.old)) }
-    ensures sums { (i : ℕ) → i < 2 ^ length point.now → slice_index weights.new i ≡ (slice_index weights.old i + (factor * eq_poly (modulo modulus) (bits_of (modulo modulus) (length point.now) i) point.now) % modulus) % modulus }
-    ensures reduced { T (all_reduced (modulo modulus) weights.new) }
+    requires factor_below { factor < M.modulus }
+    requires reduced { (T (all_reduced (modulo M.modulus) point.now)) × (T (all_reduced (modulo M.modulus) weights.old)) }
+    ensures sums { (i : ℕ) → i < 2 ^ length point.now → slice_index weights.new i ≡ (slice_index weights.old i + (factor * eq_poly (modulo M.modulus) (bits_of (modulo M.modulus) (length point.now) i) point.now) % M.modulus) % M.modulus }
+    ensures reduced { T (all_reduced (modulo M.modulus) weights.new) }
 {
     eq_table_scaled::<M>(factor, point, room);
     add_tables::<M>(weights, room);
@@ -37,10 +37,10 @@ fn add_share<M: Modular>(factor: u32, point: &[u32], room: &mut [u32], weights: 
 // The weights of a layer with 2^n gates, where n is how many coordinates the shares' points have.
 pub fn weigh<M: Modular>(first: ShareView, second: Option<ShareView>, weights: &mut [u32])
     requires length { (length weights.old ≡ 2 ^ length first.point.now) × (length first.point.now ≤ 16) }
-    requires first { ShareFits modulus (length first.point.now) first }
-    requires second { SecondFits modulus (length first.point.now) second }
-    ensures weights { (i : ℕ) → i < 2 ^ length first.entry.point.now → slice_index weights.new i ≡ share_weight (modulo modulus) (length first.entry.point.now) (shares_seen first.entry second.entry) i }
-    ensures reduced { T (all_reduced (modulo modulus) weights.new) }
+    requires first { ShareFits M.modulus (length first.point.now) first }
+    requires second { SecondFits M.modulus (length first.point.now) second }
+    ensures weights { (i : ℕ) → i < 2 ^ length first.entry.point.now → slice_index weights.new i ≡ share_weight (modulo M.modulus) (length first.entry.point.now) (shares_seen first.entry second.entry) i }
+    ensures reduced { T (all_reduced (modulo M.modulus) weights.new) }
 {
     eq_table_scaled::<M>(first.factor, first.point, weights);
     if let Some(share) = second {

@@ -20,10 +20,10 @@ use tables::eq::eq_at;
 
 // E (A (a + b) + M a b)
 fn combine<M: Modular>(at_copy: u32, wiring: Wiring, a: u32, b: u32) -> u32
-    requires at_copy { at_copy < modulus }
-    requires wiring { (wiring.sums < modulus) × (wiring.products < modulus) }
-    requires values { (a < modulus) × (b < modulus) }
-    ensures { result ≡ (at_copy * (((wiring.sums * ((a + b) % modulus)) % modulus + (wiring.products * ((a * b) % modulus)) % modulus) % modulus)) % modulus }
+    requires at_copy { at_copy < M.modulus }
+    requires wiring { (wiring.sums < M.modulus) × (wiring.products < M.modulus) }
+    requires values { (a < M.modulus) × (b < M.modulus) }
+    ensures { result ≡ (at_copy * (((wiring.sums * ((a + b) % M.modulus)) % M.modulus + (wiring.products * ((a * b) % M.modulus)) % M.modulus) % M.modulus)) % M.modulus }
 {
     let sums = M::mul(wiring.sums, M::add(a, b));
     let products = M::mul(wiring.products, M::mul(a, b));

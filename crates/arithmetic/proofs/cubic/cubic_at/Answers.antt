@@ -11,8 +11,8 @@ sub-first-requires g c =
     let four : length c.args.values ≡ 4 = search rules in
     omega (arith, four_below _ c.args.values c.requires.reduced four)
 
-pub sub-after-first-requires : goal.sub-after-first-requires
-sub-after-first-requires g c =
+pub sub-after_first-requires : goal.sub-after_first-requires
+sub-after_first-requires g c =
     let four : length c.args.values ≡ 4 = search rules in
     omega (arith, four_below _ c.args.values c.requires.reduced four)
 
@@ -21,8 +21,8 @@ sub-last-requires g c =
     let four : length c.args.values ≡ 4 = search rules in
     omega (arith, four_below _ c.args.values c.requires.reduced four)
 
-pub newton-step-requires : goal.newton-step-requires
-newton-step-requires g c =
+pub newton_step-requires : goal.newton_step-requires
+newton_step-requires g c =
     let four : length c.args.values ≡ 4 = search rules in
     omega (arith, four_below _ c.args.values c.requires.reduced four)
 
@@ -36,4 +36,4 @@ returns g c =
     let steps =
     newton_steps p (get_or ys 0 0) (get_or ys 1 0) (get_or ys 2 0) (get_or ys 3 0) c.args.x (mod-lt _ positive)
     in
-    record { value = cc (spelled, steps); below = c.newton-step.ensures.below }
+    record { value = cc (spelled, steps); below = c.newton_step.ensures.below }

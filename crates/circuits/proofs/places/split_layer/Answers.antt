@@ -16,18 +16,18 @@ power-requires c =
     let s = shaped_starts c.args.copies c.args.count c.args.words.now c.requires.some c.requires.shaped in
     omega (arith, s.limit)
 
-pub slice-bounds-result-end : goal.slice-bounds-result-end
-slice-bounds-result-end c =
+pub slice_bounds-result-end : goal.slice_bounds-result-end
+slice_bounds-result-end c =
     let s = shaped_starts c.args.copies c.args.count c.args.words.now c.requires.some c.requires.shaped in
     omega arith
 
-pub slice-bounds-result-count-2 : goal.slice-bounds-result-count-2
-slice-bounds-result-count-2 c =
+pub slice_bounds-result-count-2 : goal.slice_bounds-result-count-2
+slice_bounds-result-count-2 c =
     let s = shaped_starts c.args.copies c.args.count c.args.words.now c.requires.some c.requires.shaped in
     omega arith
 
-pub slice-bounds-result-start-2 : goal.slice-bounds-result-start-2
-slice-bounds-result-start-2 c =
+pub slice_bounds-result-start-2 : goal.slice_bounds-result-start-2
+slice_bounds-result-start-2 c =
     let s = shaped_starts c.args.copies c.args.count c.args.words.now c.requires.some c.requires.shaped in
     omega arith
 

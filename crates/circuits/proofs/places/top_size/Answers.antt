@@ -10,6 +10,6 @@ returns-then-count-eq0 c =
 pub returns-else-count-eq0 : goal.returns-else-count-eq0
 returns-else-count-eq0 c =
     record {
-      size = c.split-layer.ensures.size ∙ sym (top_some c.args.count c.args.inputs c.args.words.now (omega arith));
+      size = c.split_layer.ensures.size ∙ sym (top_some c.args.count c.args.inputs c.args.words.now (omega arith));
       limit = omega arith;
     }

@@ -6,14 +6,14 @@ use Rattle.circuits.specs.Parts.{layer_length}
 use Rattle.circuits.proofs.Steps.{shaped_more, shaped-all}
 use Rattle.circuits.proofs.shape.is_shaped.Goals as goal
 
-pub offset-bounds-rest-taken : goal.offset-bounds-rest-taken
-offset-bounds-rest-taken c = omega (arith, c.in-Some.ensures.3)
+pub offset_bounds-rest-taken : goal.offset_bounds-rest-taken
+offset_bounds-rest-taken c = omega (arith, c.in-Some.ensures.3)
 
 pub returns-in-None : goal.returns-in-None
 returns-in-None c =
     let copies = c.args.copies in
     let n = c.args.count in
-    let i = c.loop-done.-done in
+    let i = c.loop-done._done in
     let ws = c.loop-done.rest.now in
     sym (c.loop-done.invariant ∙ shaped_more copies n i ws c.loop-done-test.true
     ∙ ap (λ b. b && shaped copies (n - (i + 1)) (drop (layer_length ws) ws)) c.in-None.ensures)
@@ -22,7 +22,7 @@ pub loop-done-preserved : goal.loop-done-preserved
 loop-done-preserved c =
     let copies = c.args.copies in
     let n = c.args.count in
-    let i = c.loop-done.-done in
+    let i = c.loop-done._done in
     let ws = c.loop-done.rest.now in
     let k = c.in-Some.taken in
     c.loop-done.invariant ∙ shaped_more copies n i ws c.loop-done-test.true
@@ -32,5 +32,5 @@ loop-done-preserved c =
 
 pub returns : goal.returns
 returns c =
-    sym (c.loop-done.invariant ∙ shaped-all c.args.copies c.args.count c.loop-done.-done c.loop-done.rest.now c.loop-done-test.false
-    ∙ sym c.is-empty.ensures)
+    sym (c.loop-done.invariant ∙ shaped-all c.args.copies c.args.count c.loop-done._done c.loop-done.rest.now c.loop-done-test.false
+    ∙ sym c.is_empty.ensures)

@@ -4,4 +4,4 @@ use Rattle.circuits.specs.Words.{shaped}
 use Rattle.circuits.proofs.shape.is_shaped.Given as goal
 
 abbrev pub invariant-loop-done : goal.invariant-loop-done
-invariant-loop-done l = shaped l.copies l.count l.words ≡ shaped l.copies (l.count - l.-done) l.rest
+invariant-loop-done l = shaped l.copies l.count l.words ≡ shaped l.copies (l.count - l._done) l.rest

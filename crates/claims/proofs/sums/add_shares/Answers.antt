@@ -11,7 +11,7 @@ returns-in-None g c =
     let first = c.args.first in
     sum_of_one p positive c.args.values.now (share_seen first) (second_seen c.args.second) c.mul-value.result
     (ap second_seen c.in-None.is)
-    (c.mul-value.ensures.value ∙ ap (λ (x : ℕ). (first.factor * x) % p) c.extension-at.ensures.value)
+    (c.mul-value.ensures.value ∙ ap (λ (x : ℕ). (first.factor * x) % p) c.extension_at.ensures.value)
 
 pub returns-in-Some : goal.returns-in-Some
 returns-in-Some g c =
@@ -21,5 +21,5 @@ returns-in-Some g c =
     let share = c.in-Some.share in
     sum_of_two p positive c.args.values.now (share_seen first) (share_seen share) (second_seen c.args.second) c.mul-value.result
     c.mul.result c.add.result (ap second_seen c.in-Some.is)
-    (c.mul-value.ensures.value ∙ ap (λ (x : ℕ). (first.factor * x) % p) c.extension-at.ensures.value)
-    (c.mul.ensures.value ∙ ap (λ (x : ℕ). (share.factor * x) % p) c.extension-at-in-Some.ensures.value) c.add.ensures.value
+    (c.mul-value.ensures.value ∙ ap (λ (x : ℕ). (first.factor * x) % p) c.extension_at.ensures.value)
+    (c.mul.ensures.value ∙ ap (λ (x : ℕ). (share.factor * x) % p) c.extension_at-in-Some.ensures.value) c.add.ensures.value

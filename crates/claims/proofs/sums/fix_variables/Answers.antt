@@ -9,12 +9,12 @@ use Rattle.claims.proofs.sums.fix_variables.Goals as goal
 pub loop-r-init : goal.loop-r-init
 loop-r-init g c = fixing_none g.M.Modular.modulus c.args.table.now c.args.point.now c.requires.reduced.0
 
-pub fix-first-requires : goal.fix-first-requires
-fix-first-requires g c =
+pub fix_first-requires : goal.fix_first-requires
+fix_first-requires g c =
     let p = g.M.Modular.modulus in
     record {
       reduced = reduced_take p (c.loop-r.len - 0) c.loop-r.table c.loop-r.invariant.reduced;
-      r-below = reduced_at p c.args.point.now c.requires.reduced.1 c.loop-r.r-index (omega arith);
+      r_below = reduced_at p c.args.point.now c.requires.reduced.1 c.loop-r.r-index (omega arith);
     }
 
 pub loop-r-preserved : goal.loop-r-preserved
@@ -23,12 +23,12 @@ loop-r-preserved g c =
     let cut : length (take (c.loop-r.len - 0) c.loop-r.table) ≡ c.loop-r.len - 0 =
     length-take-le (c.loop-r.len - 0) c.loop-r.table (omega arith)
     in
-    let long : length (c.fix-first.new.table ++ drop (c.loop-r.len - 0) c.loop-r.table) ≡ length c.loop-r.table =
-    simp (length-append, length-drop) (omega (arith, c.fix-first.auto.table, cut))
+    let long : length (c.fix_first.new.table ++ drop (c.loop-r.len - 0) c.loop-r.table) ≡ length c.loop-r.table =
+    simp (length-append, length-drop) (omega (arith, c.fix_first.auto.table, cut))
     in
-    fixing_more c.loop-r.invariant c.fix-first.new.table _ (c.loop-r.len - 0) (omega arith) c.loop-r-test.true
-    c.fix-first.ensures.words c.fix-first.ensures.reduced refl long
-    (reduced_append p c.fix-first.new.table _ c.fix-first.ensures.reduced (reduced_drop p (c.loop-r.len - 0) c.loop-r.table c.loop-r.invariant.reduced))
+    fixing_more c.loop-r.invariant c.fix_first.new.table _ (c.loop-r.len - 0) (omega arith) c.loop-r-test.true
+    c.fix_first.ensures.words c.fix_first.ensures.reduced refl long
+    (reduced_append p c.fix_first.new.table _ c.fix_first.ensures.reduced (reduced_drop p (c.loop-r.len - 0) c.loop-r.table c.loop-r.invariant.reduced))
 
 pub returns : goal.returns
 returns g c =

@@ -13,19 +13,19 @@ second_size : (p n : ℕ) (second : Option ShareView) → SecondFits p n second 
 second_size p n None fit = tt
 second_size p n (Some s) fit = (fit.coordinates, tt)
 
-pub add-shares-requires : goal.add-shares-requires
-add-shares-requires g c =
+pub add_shares-requires : goal.add_shares-requires
+add_shares-requires g c =
     let p = g.M.Modular.modulus in
-    let left = c.fix-variables-left.result in
-    let table = c.fix-variables-left.new.table in
+    let left = c.fix_variables-left.result in
+    let table = c.fix_variables-left.new.table in
     let z = c.args.first.point.now in
-    let size : length c.copy-from-slice.new.self ≡ 2 ^ (length c.args.copy.now + length z) =
-    ap length c.copy-from-slice.ensures.after ∙ c.requires.length.0
+    let size : length c.copy_from_slice.new.self ≡ 2 ^ (length c.args.copy.now + length z) =
+    ap length c.copy_from_slice.ensures.after ∙ c.requires.length.0
     in
-    let count : left ≡ 2 ^ length z = c.fix-variables-left.ensures.left z size in
+    let count : left ≡ 2 ^ length z = c.fix_variables-left.ensures.left z size in
     record {
-      length = (length-take-le (left - 0) table (omega (arith, c.fix-variables-left.ensures.fits)) ∙ omega (arith, count), c.requires.length.1);
-      reduced = reduced_take p (left - 0) table c.fix-variables-left.ensures.reduced;
+      length = (length-take-le (left - 0) table (omega (arith, c.fix_variables-left.ensures.fits)) ∙ omega (arith, count), c.requires.length.1);
+      reduced = reduced_take p (left - 0) table c.fix_variables-left.ensures.reduced;
       first = c.requires.first;
       second = c.requires.second;
     }
@@ -33,19 +33,19 @@ add-shares-requires g c =
 pub returns : goal.returns
 returns g c =
     let p = g.M.Modular.modulus in
-    let left = c.fix-variables-left.result in
-    let table = c.fix-variables-left.new.table in
+    let left = c.fix_variables-left.result in
+    let table = c.fix_variables-left.new.table in
     let values = c.args.values.now in
     let copy = c.args.copy.now in
     let n : ℕ = length c.args.first.point.now in
-    let copied : c.copy-from-slice.new.self ≡ values = c.copy-from-slice.ensures.after in
+    let copied : c.copy_from_slice.new.self ≡ values = c.copy_from_slice.ensures.after in
     let shares = shares_seen c.args.first c.args.second in
     let fixed : (z : List ℕ) → length z ≡ n → mle (modulo p) (take (left - 0) table) z ≡ mle (modulo p) values (copy ++ z) =
     λ z e.
     ap (λ (m : ℕ). mle (modulo p) (take m table) z) (omega arith) ∙
-    c.fix-variables-left.ensures.values z
+    c.fix_variables-left.ensures.values z
     (ap length copied ∙ c.requires.length.0 ∙ ap (λ (m : ℕ). 2 ^ (length copy + m)) (sym e)) ∙
     ap (λ (xs : List ℕ). mle (modulo p) xs (copy ++ z)) copied
     in
-    c.add-shares.ensures ∙
+    c.add_shares.ensures ∙
     sum_fixed p n values copy (take (left - 0) table) shares (c.requires.first.coordinates, second_size p n c.args.second c.requires.second) fixed

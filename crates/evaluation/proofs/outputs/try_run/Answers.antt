@@ -14,11 +14,11 @@ fill-requires c =
     let room = length c.args.room.now in
     let i = 2 ^ (seen.copies + seen.inputs) in
     let o = 2 ^ (seen.copies + output_size seen) in
-    let counts = and_parts (eqb inputs i) (eqb room o) c.in-ok-check-counts.ensures in
+    let counts = and_parts (eqb inputs i) (eqb room o) c.in_ok-check_counts.ensures in
     let a : inputs ≡ 2 ^ seen.copies * 2 ^ seen.inputs = eqb-true inputs i counts.0 ∙ pow-add 2 seen.copies seen.inputs in
     let b : room ≡ 2 ^ seen.copies * 2 ^ output_size seen = eqb-true room o counts.1 ∙ pow-add 2 seen.copies (output_size seen) in
     record {
       inputs = cc;
-      reduced = reduced_each 2147483647 c.args.inputs.now (omega arith) c.in-ok-check-reduced.ensures;
+      reduced = reduced_each 2147483647 c.args.inputs.now (omega arith) c.in_ok-check_reduced.ensures;
       room = cc;
     }

@@ -11,6 +11,6 @@ returns c =
     let from = c.args.from.now in
     let to = c.args.to.now in
     let same = sub-zero count in
-    front_is n count to c.copy-from-slice.new.self _ (take count from) same c.requires.1
-    (ap length c.copy-from-slice.ensures.after ∙ front_length n count from same c.requires.0 ∙ sym (front_length n count to same c.requires.1))
-    (c.copy-from-slice.ensures.after ∙ ap (λ (k : ℕ). take k from) same)
+    front_is n count to c.copy_from_slice.new.self _ (take count from) same c.requires.1
+    (ap length c.copy_from_slice.ensures.after ∙ front_length n count from same c.requires.0 ∙ sym (front_length n count to same c.requires.1))
+    (c.copy_from_slice.ensures.after ∙ ap (λ (k : ℕ). take k from) same)

@@ -10,9 +10,9 @@ returns g c =
     let several : 1 < p = omega (arith, g.met.M.Modular.above) in
     let count = c.args.count in
     let words = c.args.words.now in
-    let new = c.fix-first.new.table in
-    let is = c.fix-first.ensures.words in
+    let new = c.fix_first.new.table in
+    let is = c.fix_first.ensures.words in
     record {
       front = fixed_front p several c.args.r (count - 0) count words new _ (sub-zero count) c.requires.within is;
-      reduced = fixed_reduced p several c.args.r (count - 0) count words new _ (sub-zero count) c.requires.within is c.fix-first.ensures.reduced;
+      reduced = fixed_reduced p several c.args.r (count - 0) count words new _ (sub-zero count) c.requires.within is c.fix_first.ensures.reduced;
     }

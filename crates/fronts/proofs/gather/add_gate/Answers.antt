@@ -19,8 +19,8 @@ returns-in-Product g c =
     let no-rest : to_rest N (kind_meant c.args.kind) w b ≡ 0 = ap (λ (k : Kind). to_rest N (kind_meant k) w b) c.in-Product.is in
     let amount : c.mul-both.result ≡ to_product N (kind_meant c.args.kind) w b = cc in
     record {
-      h = add_at_equal p c.args.h.now c.add-at-in-Product.new.table i _ _ c.add-at-in-Product.ensures.table amount;
+      h = add_at_equal p c.args.h.now c.add_at-in-Product.new.table i _ _ c.add_at-in-Product.ensures.table amount;
       j = add_at_equal p before before i _ _ (add_at_nothing p before i c.requires.reduced.1 c.requires.place.1) (sym no-rest);
-      h_reduced = c.add-at-in-Product.ensures.reduced;
+      h_reduced = c.add_at-in-Product.ensures.reduced;
       j_reduced = c.requires.reduced.1;
     }

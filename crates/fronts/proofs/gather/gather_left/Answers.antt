@@ -14,8 +14,8 @@ loop-i-init g c =
     let ws = c.args.weights.now in
     (passed_none p (left_h p v) gates ws c.args.h.now c.requires.reduced.0, passed_none p (left_j p v) gates ws c.args.j.now c.requires.reduced.1)
 
-pub add-gate-requires : goal.add-gate-requires
-add-gate-requires g c =
+pub add_gate-requires : goal.add_gate-requires
+add_gate-requires g c =
     let p = g.M.Modular.modulus in
     let gate = c.gate-gate.result in
     let right : gate.right < length c.args.values.now = omega arith in
@@ -37,9 +37,9 @@ loop-i-preserved g c =
     let here : i < length ws = omega arith in
     let there : i < length gates = omega arith in (
       passed_more p (left_h p v) _ _ (gathers_left_h p v) gates ws c.args.h.now i c.loop-i.h c.loop-i.invariant.0 there here
-          gate c.gate-gate.ensures.value c.add-gate.new.h c.add-gate.ensures.h c.add-gate.ensures.h_reduced,
+          gate c.gate-gate.ensures.value c.add_gate.new.h c.add_gate.ensures.h c.add_gate.ensures.h_reduced,
       passed_more p (left_j p v) _ _ (gathers_left_j p v) gates ws c.args.j.now i c.loop-i.j c.loop-i.invariant.1 there here
-          gate c.gate-gate.ensures.value c.add-gate.new.j c.add-gate.ensures.j c.add-gate.ensures.j_reduced,
+          gate c.gate-gate.ensures.value c.add_gate.new.j c.add_gate.ensures.j c.add_gate.ensures.j_reduced,
     )
 
 pub returns : goal.returns

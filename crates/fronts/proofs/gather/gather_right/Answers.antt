@@ -9,13 +9,13 @@ use Rattle.fronts.proofs.gather.gather_right.Goals as goal
 pub loop-i-init : goal.loop-i-init
 loop-i-init g c =
     let p = g.M.Modular.modulus in
-    let a = c.args.value-at-x in
+    let a = c.args.value_at_x in
     let gates = gates_seen c.args.layer in
     let ws = c.args.weights.now in
     (passed_none p (right_h p a) gates ws c.args.h.now c.requires.reduced.0, passed_none p (right_j p a) gates ws c.args.j.now c.requires.reduced.1)
 
-pub add-gate-requires : goal.add-gate-requires
-add-gate-requires g c =
+pub add_gate-requires : goal.add_gate-requires
+add_gate-requires g c =
     let p = g.M.Modular.modulus in
     record {
       place = (omega arith, omega arith);
@@ -26,7 +26,7 @@ add-gate-requires g c =
 pub loop-i-preserved : goal.loop-i-preserved
 loop-i-preserved g c =
     let p = g.M.Modular.modulus in
-    let a = c.args.value-at-x in
+    let a = c.args.value_at_x in
     let gates = gates_seen c.args.layer in
     let ws = c.args.weights.now in
     let i = c.loop-i.i in
@@ -35,15 +35,15 @@ loop-i-preserved g c =
     let here : i < length ws = omega arith in
     let there : i < length gates = omega arith in (
       passed_more p (right_h p a) _ _ (gathers_right_h p a) gates ws c.args.h.now i c.loop-i.h c.loop-i.invariant.0 there here
-          gate c.gate-gate.ensures.value c.add-gate.new.h c.add-gate.ensures.h c.add-gate.ensures.h_reduced,
+          gate c.gate-gate.ensures.value c.add_gate.new.h c.add_gate.ensures.h c.add_gate.ensures.h_reduced,
       passed_more p (right_j p a) _ _ (gathers_right_j p a) gates ws c.args.j.now i c.loop-i.j c.loop-i.invariant.1 there here
-          gate c.gate-gate.ensures.value c.add-gate.new.j c.add-gate.ensures.j c.add-gate.ensures.j_reduced,
+          gate c.gate-gate.ensures.value c.add_gate.new.j c.add_gate.ensures.j c.add_gate.ensures.j_reduced,
     )
 
 pub returns : goal.returns
 returns g c =
     let p = g.M.Modular.modulus in
-    let a = c.args.value-at-x in
+    let a = c.args.value_at_x in
     let gates = gates_seen c.args.layer in
     let ws = c.args.weights.now in
     let whole : length gates ≡ 2 ^ size_seen c.args.layer = length-gates_of _ _ in

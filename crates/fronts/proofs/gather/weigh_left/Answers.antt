@@ -13,8 +13,8 @@ loop-i-init g c = record { done = refl; rest = refl; reduced = c.requires.given.
 pub mul-requires : goal.mul-requires
 mul-requires g c =
     let p = g.M.Modular.modulus in
-    let left : c.gate-gate.result.left < length c.args.eq-at-x.now = omega arith in
-    (reduced_at p c.loop-i.weights c.loop-i.invariant.reduced c.loop-i.i (omega arith), reduced_at p c.args.eq-at-x.now c.requires.given.1 c.gate-gate.result.left left)
+    let left : c.gate-gate.result.left < length c.args.eq_at_x.now = omega arith in
+    (reduced_at p c.loop-i.weights c.loop-i.invariant.reduced c.loop-i.i (omega arith), reduced_at p c.args.eq_at_x.now c.requires.given.1 c.gate-gate.result.left left)
 
 pub loop-i-preserved : goal.loop-i-preserved
 loop-i-preserved g c =
@@ -22,7 +22,7 @@ loop-i-preserved g c =
     let positive : 0 < p = omega (arith, g.met.M.Modular.above) in
     let gates = gates_seen c.args.layer in
     let whole : length gates ≡ 2 ^ size_seen c.args.layer = length-gates_of _ _ in
-    weighed_more p positive gates c.args.weights.now c.args.eq-at-x.now c.loop-i.i c.loop-i.weights c.loop-i.invariant (omega arith) (omega arith) (omega arith)
+    weighed_more p positive gates c.args.weights.now c.args.eq_at_x.now c.loop-i.i c.loop-i.weights c.loop-i.invariant (omega arith) (omega arith) (omega arith)
     c.gate-gate.result.left c.mul.result (ap (λ (x : Gate). x.left) c.gate-gate.ensures.value) c.mul.ensures.value
 
 pub returns : goal.returns
@@ -31,6 +31,6 @@ returns g c =
     let gates = gates_seen c.args.layer in
     let whole : length gates ≡ 2 ^ size_seen c.args.layer = length-gates_of _ _ in
     record {
-      weights = weighed_all p gates c.args.weights.now c.args.eq-at-x.now c.loop-i.i c.loop-i.weights c.loop-i.invariant (omega arith) (omega arith) (omega arith);
+      weights = weighed_all p gates c.args.weights.now c.args.eq_at_x.now c.loop-i.i c.loop-i.weights c.loop-i.invariant (omega arith) (omega arith) (omega arith);
       reduced = c.loop-i.invariant.reduced;
     }

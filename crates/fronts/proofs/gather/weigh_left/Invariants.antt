@@ -4,4 +4,4 @@ use Rattle.fronts.proofs.Gathering.{Weighed}
 use Rattle.fronts.proofs.gather.weigh_left.Given as goal
 
 abbrev pub invariant-loop-i : goal.invariant-loop-i
-invariant-loop-i g l = Weighed g.M.Modular.modulus (gates_seen l.layer) l.initial.weights l.eq-at-x l.i l.weights
+invariant-loop-i g l = Weighed g.M.Modular.modulus (gates_seen l.layer) l.initial.weights l.eq_at_x l.i l.weights

@@ -11,5 +11,5 @@ returns g c =
     let p = g.M.Modular.modulus in
     let z = c.args.point.now in
     let count : ℕ = 2 ^ length z in
-    let front = ap (take count) c.eq-table.ensures.words ∙ take_at (eq_table (modulo p) z) _ count (eq_table-length (modulo p) z) in
-    record { front = front; reduced = subst (λ (l : List ℕ). T (all_reduced (modulo p) l)) (sym front) c.eq-table.ensures.reduced }
+    let front = ap (take count) c.eq_table.ensures.words ∙ take_at (eq_table (modulo p) z) _ count (eq_table-length (modulo p) z) in
+    record { front = front; reduced = subst (λ (l : List ℕ). T (all_reduced (modulo p) l)) (sym front) c.eq_table.ensures.reduced }

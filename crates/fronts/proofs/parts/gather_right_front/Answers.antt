@@ -8,20 +8,20 @@ use Rattle.fronts.proofs.FrontSteps.{front_length}
 use Rattle.fronts.proofs.WeightLists.{front_same, front_reduced, cleared, cleared_reduced}
 use Rattle.fronts.proofs.parts.gather_right_front.Goals as goal
 
-pub gather-right-requires : goal.gather-right-requires
-gather-right-requires g c =
+pub gather_right-requires : goal.gather_right-requires
+gather_right-requires g c =
     let p = g.M.Modular.modulus in
     let positive : 0 < p = omega (arith, g.met.M.Modular.above) in
     let n = c.args.places in
-    let h = c.clear-front.new.words in
-    let j = c.clear-front-2.new.words in
+    let h = c.clear_front.new.words in
+    let j = c.clear_front-2.new.words in
     let lh = front_length (n - 0) n h (sub-zero n) (omega arith) in
     let lj = front_length (n - 0) n j (sub-zero n) (omega arith) in
     record {
       gates = c.requires.gates.0;
       room = (omega arith, omega arith);
       given = (c.requires.gates.1, c.requires.places.1);
-      reduced = (cleared_reduced p positive (n - 0) n h (sub-zero n) c.clear-front.ensures, cleared_reduced p positive (n - 0) n j (sub-zero n) c.clear-front-2.ensures);
+      reduced = (cleared_reduced p positive (n - 0) n h (sub-zero n) c.clear_front.ensures, cleared_reduced p positive (n - 0) n j (sub-zero n) c.clear_front-2.ensures);
     }
 
 pub returns : goal.returns
@@ -31,17 +31,17 @@ returns g c =
     let n = c.args.places in
     let gs = gates_seen c.args.layer in
     let ws = c.args.weights.now in
-    let h = c.clear-front.new.words in
-    let j = c.clear-front-2.new.words in
-    let new_h = c.gather-right.new.h in
-    let new_j = c.gather-right.new.j in
+    let h = c.clear_front.new.words in
+    let j = c.clear_front-2.new.words in
+    let new_h = c.gather_right.new.h in
+    let new_j = c.gather_right.new.j in
     let lh = front_length (n - 0) n h (sub-zero n) (omega arith) in
     let lj = front_length (n - 0) n j (sub-zero n) (omega arith) in
     let long_h : length new_h ≡ n = omega arith in
     let long_j : length new_j ≡ n = omega arith in
     record {
-      h = front_same p n new_h _ long_h ∙ c.gather-right.ensures.h ∙ ap (λ (t : List ℕ). gather_hy N gs ws c.args.value-at-x t) (cleared (n - 0) n h (sub-zero n) c.clear-front.ensures);
-      j = front_same p n new_j _ long_j ∙ c.gather-right.ensures.j ∙ ap (λ (t : List ℕ). gather_jy N gs ws c.args.value-at-x t) (cleared (n - 0) n j (sub-zero n) c.clear-front-2.ensures);
-      h_reduced = front_reduced p n new_h _ long_h c.gather-right.ensures.h_reduced;
-      j_reduced = front_reduced p n new_j _ long_j c.gather-right.ensures.j_reduced;
+      h = front_same p n new_h _ long_h ∙ c.gather_right.ensures.h ∙ ap (λ (t : List ℕ). gather_hy N gs ws c.args.value_at_x t) (cleared (n - 0) n h (sub-zero n) c.clear_front.ensures);
+      j = front_same p n new_j _ long_j ∙ c.gather_right.ensures.j ∙ ap (λ (t : List ℕ). gather_jy N gs ws c.args.value_at_x t) (cleared (n - 0) n j (sub-zero n) c.clear_front-2.ensures);
+      h_reduced = front_reduced p n new_h _ long_h c.gather_right.ensures.h_reduced;
+      j_reduced = front_reduced p n new_j _ long_j c.gather_right.ensures.j_reduced;
     }

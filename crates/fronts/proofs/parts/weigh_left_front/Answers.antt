@@ -13,12 +13,12 @@ returns g c =
     let p = g.M.Modular.modulus in
     let gates = c.args.gates in
     let words = c.args.words.now in
-    let eq = c.args.eq-at-x.now in
-    let new = c.weigh-left.new.weights in
+    let eq = c.args.eq_at_x.now in
+    let new = c.weigh_left.new.weights in
     let part = front_length (gates - 0) gates words (sub-zero gates) c.requires.gates.1 in
     let long : length new ≡ gates = omega arith in
     record {
-      front = front_same p gates new _ long ∙ c.weigh-left.ensures.weights
+      front = front_same p gates new _ long ∙ c.weigh_left.ensures.weights
           ∙ ap₂ (λ (m n : ℕ). weights_at (modulo p) (gates_seen c.args.layer) (take m words) (take n eq)) (sub-zero gates) (sub-zero c.args.places);
-      reduced = front_reduced p gates new _ long c.weigh-left.ensures.reduced;
+      reduced = front_reduced p gates new _ long c.weigh_left.ensures.reduced;
     }

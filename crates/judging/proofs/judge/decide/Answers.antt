@@ -20,23 +20,23 @@ new-verifier-requires c =
     let claimed = c.args.claimed.now in
     let messages = c.args.messages.now in
     let coins = c.args.coins.now in
-    let first = c.first-coins-first.result in
+    let first = c.first_coins-first.result in
     let enough = eqb-true _ _ (coins_count cs vs claimed messages coins c.requires) in
-    let long : length (take (first - 0) coins) ≡ first - 0 = length-take-le (first - 0) coins (omega (arith, enough, c.first-coins-first.ensures.value)) in
+    let long : length (take (first - 0) coins) ≡ first - 0 = length-take-le (first - 0) coins (omega (arith, enough, c.first_coins-first.ensures.value)) in
     record {
       inputs = (eqb-true _ _ (inputs_count cs vs claimed messages coins c.requires), c.requires.inputs_reduced);
       claimed = (eqb-true _ _ (outputs_count cs vs claimed messages coins c.requires), c.requires.claimed_reduced);
-      coins = (omega (arith, long, c.first-coins-first.ensures.value), reduced_part modulus 0 (first - 0) coins c.requires.coins_reduced);
+      coins = (omega (arith, long, c.first_coins-first.ensures.value), reduced_part modulus 0 (first - 0) coins c.requires.coins_reduced);
     }
 
-pub hear-all-requires : goal.hear-all-requires
-hear-all-requires c =
+pub hear_all-requires : goal.hear_all-requires
+hear_all-requires c =
     let cs = words_seen c.args.circuit in
     let vs = c.args.inputs.now in
     let claimed = c.args.claimed.now in
     let messages = c.args.messages.now in
     let coins = c.args.coins.now in
-    let first = c.first-coins-first.result in
+    let first = c.first_coins-first.result in
     let enough = eqb-true _ _ (coins_count cs vs claimed messages coins c.requires) in
     let begun = c.new-verifier.ensures.stand in
     record {
@@ -44,7 +44,7 @@ hear-all-requires c =
       counts = (
         eqb-true _ _ (words_count cs vs claimed messages coins c.requires) ∙ sym (ap words_from begun),
         ap length (take_rest coins first) ∙
-            omega (arith, length-drop first coins, enough, c.first-coins-first.ensures.value) ∙ sym (ap coins_from begun),
+            omega (arith, length-drop first coins, enough, c.first_coins-first.ensures.value) ∙ sym (ap coins_from begun),
       );
       coins = reduced_part modulus first (length coins - first) coins c.requires.coins_reduced;
     }
@@ -59,14 +59,14 @@ returns c =
     let v = c.new-verifier.result in
     let claimed = c.args.claimed.now in
     let coins = c.args.coins.now in
-    let first = c.first-coins-first.result in
-    let count : first - 0 ≡ first_coins circuit = omega (arith, c.first-coins-first.ensures.value) in
+    let first = c.first_coins-first.result in
+    let count : first - 0 ≡ first_coins circuit = omega (arith, c.first_coins-first.ensures.value) in
     let begun : stand_of v ≡ start numbers circuit claimed (take (first_coins circuit) coins) =
     c.new-verifier.ensures.stand ∙ ap (λ (n : ℕ). start numbers circuit claimed (take n coins)) count
     in
     let left : take (length coins - first) (drop first coins) ≡ drop (first_coins circuit) coins =
-    take_rest coins first ∙ ap (λ (n : ℕ). drop n coins) c.first-coins-first.ensures.value
+    take_rest coins first ∙ ap (λ (n : ℕ). drop n coins) c.first_coins-first.ensures.value
     in
-    c.hear-all.ensures ∙
+    c.hear_all.ensures ∙
     same_run (inputs_of v) c.args.inputs.now (stand_of v) (start numbers circuit claimed (take (first_coins circuit) coins)) c.args.messages.now
     (take (length coins - first) (drop first coins)) (drop (first_coins circuit) coins) c.new-verifier.ensures.inputs begun left

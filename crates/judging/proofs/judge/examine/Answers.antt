@@ -12,7 +12,7 @@ returns c =
     let claimed = c.args.claimed.now in
     let messages = c.args.messages.now in
     let coins = c.args.coins.now in (
-      c.in-ok-check-all.ensures,
+      c.in_ok-check_all.ensures,
       c.decide.ensures ∙
           ap (λ (ws : List ℕ). verdict numbers (circuit_of ws) vs claimed (answers_in (circuit_of ws) messages) coins) c.new-view.ensures,
     )

@@ -6,14 +6,14 @@ use Rattle.judging.proofs.judge.try_judge.Goals as goal
 
 pub returns-in-Believed : goal.returns-in-Believed
 returns-in-Believed c =
-    let history = c.in-ok-examine.ensures in
+    let history = c.in_ok-examine.ensures in
     sym (ap number_of c.in-Believed.is) ∙
     judged-verdict c.args.circuit.now c.args.inputs.now c.args.claimed.now c.args.messages.now c.args.coins.now
-    history.0 c.in-ok-examine.field-0 history.1
+    history.0 c.in_ok-examine.field-0 history.1
 
 pub returns-in-Stopped : goal.returns-in-Stopped
 returns-in-Stopped c =
-    let history = c.in-ok-examine.ensures in
+    let history = c.in_ok-examine.ensures in
     sym (ap number_of c.in-Stopped.is) ∙
     judged-verdict c.args.circuit.now c.args.inputs.now c.args.claimed.now c.args.messages.now c.args.coins.now
-    history.0 c.in-ok-examine.field-0 history.1
+    history.0 c.in_ok-examine.field-0 history.1

@@ -10,8 +10,8 @@ use Rattle.verifier.specs.Meaning.{stand_of, inputs_of}
 use Rattle.judging.proofs.Walking.{layer_leads, layer_ends_late, layer_ends_early}
 use Rattle.judging.proofs.transcript.hear_layer.Goals as goal
 
-pub hear-variables-requires : goal.hear-variables-requires
-hear-variables-requires c =
+pub hear_variables-requires : goal.hear_variables-requires
+hear_variables-requires c =
     let s = stand_of c.args.verifier.now in
     let n = c.variables-variables.result in
     let coins = c.args.coins.now in
@@ -25,10 +25,10 @@ hear-variables-requires c =
       coins = reduced_part modulus 0 (n - 0) coins c.requires.coins;
     }
 
-pub returns-in-err-hear-variables : goal.returns-in-err-hear-variables
-returns-in-err-hear-variables c =
+pub returns-in_err-hear_variables : goal.returns-in_err-hear_variables
+returns-in_err-hear_variables c =
     let p = err_from_is_err_and c.from-residual.result c.from-residual.ensures.1 in
-    let history = c.in-err-hear-variables.ensures in
+    let history = c.in_err-hear_variables.ensures in
     let v = c.args.verifier.now in
     let n = c.variables-variables.result in
     let ws = c.args.said.now in
@@ -44,7 +44,7 @@ returns-in-err-hear-variables c =
 
 pub hear-requires : goal.hear-requires
 hear-requires c =
-    let history = c.in-ok-hear-variables.ensures in
+    let history = c.in_ok-hear_variables.ensures in
     record {
       some = omega (arith, ap length history.heard.1.layers, c.requires.some);
       word = reduced_at modulus c.args.coins.now (T_of_path _ c.requires.coins) c.variables-variables.result (omega arith);
@@ -52,7 +52,7 @@ hear-requires c =
 
 pub returns : goal.returns
 returns c =
-    let history = c.in-ok-hear-variables.ensures in
+    let history = c.in_ok-hear_variables.ensures in
     let v = c.args.verifier.now in
     let n = c.variables-variables.result in
     let ws = c.args.said.now in

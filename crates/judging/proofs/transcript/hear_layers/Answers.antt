@@ -17,30 +17,30 @@ words_cut from n v ws e = ap (λ (k : ℕ). take k (drop from ws)) (let l : from
 coins_cut : (from n v : ℕ) (ws : List ℕ) → n ≡ v → take (from + n + 1 - from) (drop from ws) ≡ take (v + 1) (drop from ws)
 coins_cut from n v ws e = ap (λ (k : ℕ). take k (drop from ws)) (let l : from + n + 1 - from ≡ v + 1 = omega arith in l)
 
-pub slice-bounds-hear-layer-end : goal.slice-bounds-hear-layer-end
-slice-bounds-hear-layer-end c =
+pub slice-bounds-hear_layer-end : goal.slice-bounds-hear_layer-end
+slice-bounds-hear_layer-end c =
     let t = stand_of c.loop-verifier.verifier in
-    let some = layers_left t.layers c.at-inputs.result c.at-inputs.ensures c.loop-verifier-test.true in
+    let some = layers_left t.layers c.at_inputs.result c.at_inputs.ensures c.loop-verifier-test.true in
     let room = walking_room c.loop-verifier.invariant.0 some in
     let end : c.loop-verifier.said + 4 * c.variables-variables.result + 2 ≤ length c.args.messages.now =
     omega (arith, room.0, c.variables-variables.ensures.value)
     in
     search rules
 
-pub slice-bounds-hear-layer-end-in-loop-verifier : goal.slice-bounds-hear-layer-end-in-loop-verifier
-slice-bounds-hear-layer-end-in-loop-verifier c =
+pub slice-bounds-hear_layer-end-in-loop-verifier : goal.slice-bounds-hear_layer-end-in-loop-verifier
+slice-bounds-hear_layer-end-in-loop-verifier c =
     let t = stand_of c.loop-verifier.verifier in
-    let some = layers_left t.layers c.at-inputs.result c.at-inputs.ensures c.loop-verifier-test.true in
+    let some = layers_left t.layers c.at_inputs.result c.at_inputs.ensures c.loop-verifier-test.true in
     let room = walking_room c.loop-verifier.invariant.0 some in
     let end : c.loop-verifier.drawn + c.variables-variables.result + 1 ≤ length c.args.coins.now =
     omega (arith, room.1, c.variables-variables.ensures.value)
     in
     search rules
 
-pub hear-layer-requires : goal.hear-layer-requires
-hear-layer-requires c =
+pub hear_layer-requires : goal.hear_layer-requires
+hear_layer-requires c =
     let t = stand_of c.loop-verifier.verifier in
-    let some = layers_left t.layers c.at-inputs.result c.at-inputs.ensures c.loop-verifier-test.true in
+    let some = layers_left t.layers c.at_inputs.result c.at_inputs.ensures c.loop-verifier-test.true in
     let room = walking_room c.loop-verifier.invariant.0 some in
     let n = c.variables-variables.result in
     let en = c.variables-variables.ensures.value in
@@ -58,12 +58,12 @@ hear-layer-requires c =
       coins = reduced_part modulus drawn (drawn + n + 1 - drawn) c.args.coins.now c.requires.coins;
     }
 
-pub returns-in-err-hear-layer : goal.returns-in-err-hear-layer
-returns-in-err-hear-layer c =
+pub returns-in_err-hear_layer : goal.returns-in_err-hear_layer
+returns-in_err-hear_layer c =
     let p = err_from_is_err_and c.from-residual.result c.from-residual.ensures.1 in
-    let history = c.in-err-hear-layer.ensures in
+    let history = c.in_err-hear_layer.ensures in
     let t = stand_of c.loop-verifier.verifier in
-    let some = layers_left t.layers c.at-inputs.result c.at-inputs.ensures c.loop-verifier-test.true in
+    let some = layers_left t.layers c.at_inputs.result c.at_inputs.ensures c.loop-verifier-test.true in
     let n = c.variables-variables.result in
     let en = c.variables-variables.ensures.value in
     let part = take (c.loop-verifier.said + 4 * n + 2 - c.loop-verifier.said) (drop c.loop-verifier.said c.args.messages.now) in
@@ -73,16 +73,16 @@ returns-in-err-hear-layer c =
           rw (p.1, p.2)
           (walking_ends c.loop-verifier.invariant.0 some _ _ _ (words_cut c.loop-verifier.said n (variables_of t) c.args.messages.now en)
           (coins_cut c.loop-verifier.drawn n (variables_of t) c.args.coins.now en)
-          (subst (λ (vs : List ℕ). Ends vs t (layer_answers t part) cs c.in-err-hear-layer.field-0.0) c.loop-verifier.invariant.1 history.heard));
+          (subst (λ (vs : List ℕ). Ends vs t (layer_answers t part) cs c.in_err-hear_layer.field-0.0) c.loop-verifier.invariant.1 history.heard));
       inputs = history.inputs ∙ c.loop-verifier.invariant.1;
     }
 
 pub loop-verifier-preserved : goal.loop-verifier-preserved
 loop-verifier-preserved c =
-    let history = c.in-ok-hear-layer.ensures in
+    let history = c.in_ok-hear_layer.ensures in
     let t = stand_of c.loop-verifier.verifier in
-    let u = stand_of c.hear-layer.new.verifier in
-    let some = layers_left t.layers c.at-inputs.result c.at-inputs.ensures c.loop-verifier-test.true in
+    let u = stand_of c.hear_layer.new.verifier in
+    let some = layers_left t.layers c.at_inputs.result c.at_inputs.ensures c.loop-verifier-test.true in
     let n = c.variables-variables.result in
     let en = c.variables-variables.ensures.value in
     let said = c.loop-verifier.said in
@@ -100,5 +100,5 @@ loop-verifier-preserved c =
 pub returns : goal.returns
 returns c =
     let t = stand_of c.loop-verifier.verifier in
-    let none = no_layers_left t.layers c.at-inputs.result c.at-inputs.ensures c.loop-verifier-test.false in
+    let none = no_layers_left t.layers c.at_inputs.result c.at_inputs.ensures c.loop-verifier-test.false in
     record { heard = (none, walking_all c.loop-verifier.invariant.0 none); inputs = c.loop-verifier.invariant.1 }

@@ -23,11 +23,11 @@ hear-requires c =
       word = reduced_at modulus c.args.coins.now (T_of_path _ c.requires.coins) c.loop-i.i (omega arith);
     }
 
-pub returns-in-err-hear : goal.returns-in-err-hear
-returns-in-err-hear c =
+pub returns-in_err-hear : goal.returns-in_err-hear
+returns-in_err-hear c =
     let p = err_from_is_err_and c.from-residual.result c.from-residual.ensures.1 in
     let i = c.loop-i.i in
-    let history = c.in-err-hear.ensures in
+    let history = c.in_err-hear.ensures in
     record {
       heard = rw (p.1, p.2) (hearing_ends c.loop-i.invariant.0 (take (4 * i + 4 - 4 * i) (drop (4 * i) c.args.said.now)) _ (omega arith) (four_words i c.args.said.now) history.step.0 history.step.1);
       inputs = history.inputs ∙ c.loop-i.invariant.1;
@@ -36,7 +36,7 @@ returns-in-err-hear c =
 pub loop-i-preserved : goal.loop-i-preserved
 loop-i-preserved c =
     let i = c.loop-i.i in
-    let history = c.in-ok-hear.ensures in (
+    let history = c.in_ok-hear.ensures in (
       hearing_more c.loop-i.invariant.0 _ (take (4 * i + 4 - 4 * i) (drop (4 * i) c.args.said.now)) (omega arith) c.requires.counts.0 (four_words i c.args.said.now)
           history.step.0 history.step.1,
       history.inputs ∙ c.loop-i.invariant.1,

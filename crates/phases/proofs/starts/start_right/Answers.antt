@@ -19,15 +19,15 @@ returns g c k X point shares tables =
     let m : ℕ = places_below layer in
     let parts = layer_parts (size_seen layer) m layer.words.now layer.lawful in
     let gates = c.places-gates.result in
-    let below = c.places-below.result in
+    let below = c.places_below.result in
     let size : ℕ = length c.args.first.point.now in
     let eg : gates ≡ 2 ^ size_seen layer = c.places-gates.ensures.value ∙ ap (λ (n : ℕ). 2 ^ n) c.size.ensures.value in
-    let eb : below ≡ 2 ^ m = c.places-below.ensures.value ∙ ap (λ (n : ℕ). 2 ^ n) c.size-below.ensures.value in
+    let eb : below ≡ 2 ^ m = c.places_below.ensures.value ∙ ap (λ (n : ℕ). 2 ^ n) c.size_below.ensures.value in
     right_read p several (layer_seen layer) m k X point (gates_read (2 ^ m) (gates_seen layer) parts.fits) gates below (gates - 0) (below - 0)
     eg eb (sub-zero gates) (sub-zero below) c.args.x.now c.args.v.now c.args.w.now c.args.h.now c.args.j.now
-    c.copy-front.new.to c.gather-right-front.new.h c.gather-right-front.new.j c.weigh-front.new.words c.scale-front.new.words
-    c.weigh-left-front.new.words c.eq-front.new.words c.args.factor _ size tables refl c.requires.x.0 c.requires.first.coordinates
-    (length-gates_of (2 ^ size_seen layer) layer.words.now) c.copy-front.ensures
-    (c.weigh-front.ensures.front ∙ ap (λ (ss : List (Share ℕ)). weights (modulo p) size ss 0 gates) (sym shares)) c.scale-front.ensures.front
-    c.eq-front.ensures.front c.weigh-left-front.ensures.front c.gather-right-front.ensures.h c.gather-right-front.ensures.j
-    c.gather-right-front.ensures.h_reduced c.gather-right-front.ensures.j_reduced
+    c.copy_front.new.to c.gather_right_front.new.h c.gather_right_front.new.j c.weigh_front.new.words c.scale_front.new.words
+    c.weigh_left_front.new.words c.eq_front.new.words c.args.factor _ size tables refl c.requires.x.0 c.requires.first.coordinates
+    (length-gates_of (2 ^ size_seen layer) layer.words.now) c.copy_front.ensures
+    (c.weigh_front.ensures.front ∙ ap (λ (ss : List (Share ℕ)). weights (modulo p) size ss 0 gates) (sym shares)) c.scale_front.ensures.front
+    c.eq_front.ensures.front c.weigh_left_front.ensures.front c.gather_right_front.ensures.h c.gather_right_front.ensures.j
+    c.gather_right_front.ensures.h_reduced c.gather_right_front.ensures.j_reduced

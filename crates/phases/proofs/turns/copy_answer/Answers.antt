@@ -7,17 +7,17 @@ use Rattle.phases.proofs.StartsRead.{reduced_end}
 use Rattle.phases.proofs.TurnSteps.{copies_answer}
 use Rattle.phases.proofs.turns.copy_answer.Goals as goal
 
-pub sum-copies-requires : goal.sum-copies-requires
-sum-copies-requires g c =
+pub sum_copies-requires : goal.sum_copies-requires
+sum_copies-requires g c =
     let p = g.M.Modular.modulus in
     let layer = c.args.layer in
     let gates = c.places-gates.result in
     let count = c.places-count.result in
     let all = c.places-all.result in
-    let eb : c.places-below.result ≡ 2 ^ places_below layer = c.places-below.ensures.value ∙ ap (λ (n : ℕ). 2 ^ n) c.size-below.ensures.value in
+    let eb : c.places_below.result ≡ 2 ^ places_below layer = c.places_below.ensures.value ∙ ap (λ (n : ℕ). 2 ^ n) c.size_below.ensures.value in
     let eg : gates ≡ 2 ^ size_seen layer = c.places-gates.ensures.value ∙ ap (λ (n : ℕ). 2 ^ n) c.size.ensures.value in
     let ea : all ≡ 2 ^ c.args.left * 2 ^ places_below layer =
-    c.places-all.ensures.value ∙ ap (λ (n : ℕ). 2 ^ (c.args.left + n)) c.size-below-2.ensures.value ∙ pow-add 2 c.args.left (places_below layer) in
+    c.places-all.ensures.value ∙ ap (λ (n : ℕ). 2 ^ (c.args.left + n)) c.size_below-2.ensures.value ∙ pow-add 2 c.args.left (places_below layer) in
     let lw = front_length (gates - 0) gates c.args.w.now (sub-zero gates) (omega arith) in
     let lh = front_length (count - 0) count c.args.h.now (sub-zero count) (omega arith) in
     let lv = front_length (all - 0) all c.args.v.now (sub-zero all) (omega arith) in
@@ -43,11 +43,11 @@ returns g c =
     let all = c.places-all.result in
     let eg : gates - 0 ≡ 2 ^ size_seen layer = sub-zero gates ∙ c.places-gates.ensures.value ∙ ap (λ (n : ℕ). 2 ^ n) c.size.ensures.value in
     let ec : count - 0 ≡ 2 ^ left = sub-zero count ∙ c.places-count.ensures.value in
-    let ea : all - 0 ≡ 2 ^ (left + m) = sub-zero all ∙ c.places-all.ensures.value ∙ ap (λ (n : ℕ). 2 ^ (left + n)) c.size-below-2.ensures.value in
+    let ea : all - 0 ≡ 2 ^ (left + m) = sub-zero all ∙ c.places-all.ensures.value ∙ ap (λ (n : ℕ). 2 ^ (left + n)) c.size_below-2.ensures.value in
     let lh = front_length (count - 0) count c.args.h.now (sub-zero count) (omega arith) in
     record {
       answer = λ k X point tables.
           copies_answer p several (layer_seen layer) m k X point left (gates - 0) (count - 0) (all - 0) c.args.v.now c.args.w.now c.args.h.now
-          c.requires.left.0 eg ec ea tables c.sum-copies.result c.sum-copies.ensures.values (lh ∙ sym (sub-zero count));
-      reduced = c.sum-copies.ensures.reduced;
+          c.requires.left.0 eg ec ea tables c.sum_copies.result c.sum_copies.ensures.values (lh ∙ sym (sub-zero count));
+      reduced = c.sum_copies.ensures.reduced;
     }

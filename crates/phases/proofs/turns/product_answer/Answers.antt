@@ -14,6 +14,6 @@ returns g c =
     record {
       answer = λ F G tables.
           products_answer p several F G c.args.left n (n - 0) c.args.v.now c.args.h.now c.args.j.now c.requires.left.0
-          c.places-count.ensures.value (sub-zero n) tables c.sum-round.result c.sum-round.ensures.values long;
-      reduced = c.sum-round.ensures.reduced;
+          c.places-count.ensures.value (sub-zero n) tables c.sum_round.result c.sum_round.ensures.values long;
+      reduced = c.sum_round.ensures.reduced;
     }

@@ -8,8 +8,8 @@ use Rattle.programs.proofs.answering.is_last.Goals as goal
 pub returns-then-count-eq0 : goal.returns-then-count-eq0
 returns-then-count-eq0 c =
     let t = c.args.prover in
-    let same : c.copies.result + 2 * c.size-below.result ≡ variables_of t =
-    omega (arith, c.copies.ensures.value, c.size-below.ensures.value)
+    let same : c.copies.result + 2 * c.size_below.result ≡ variables_of t =
+    omega (arith, c.copies.ensures.value, c.size_below.ensures.value)
     in
     ap (λ (n : ℕ). eqb t.drawn n) same
     ∙ last_here (copies_of t) (inputs_below t.rest) (variables_of t) t.drawn c.count.result (layers_seen t.rest)

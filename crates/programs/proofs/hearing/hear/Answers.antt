@@ -15,7 +15,7 @@ pub returns-in-Err : goal.returns-in-Err
 returns-in-Err c =
     record {
       talk =
-          heard_unread _ c.args.line.now (0 ∷ 0 ∷ 0 ∷ 0 ∷ 0 ∷ []) c.read-into.new.room c.in-Err.field-0 _
+          heard_unread _ c.args.line.now (0 ∷ 0 ∷ 0 ∷ 0 ∷ 0 ∷ []) c.read_into.new.room c.in-Err.field-0 _
           c.in-Err.ensures refl c.doubt.ensures;
       fits = tt;
     }

@@ -22,17 +22,17 @@ returns-then-drawn-copies c =
     let less : c.copies-copies.result - t.drawn - 1 ≡ copies_of t - length (history t) - 1 = omega arith in
     let same : copies_of t - length (history t) ≡ c.copies-copies.result - t.drawn = omega arith in
     let tables =
-    c.copy-coin.ensures (claim_held t) (values_held t) (history t) c.args.w.now
+    c.copy_coin.ensures (claim_held t) (values_held t) (history t) c.args.w.now
     (subst (λ (n : ℕ). CopyTables modulus (layer_seen t.layer) (below_of t) (claim_held t) (values_held t) (history t) n c.args.v.now c.args.w.now c.args.h.now)
     same (s.parts.over_copies (omega arith))) in
     record {
       pushed = c.push.ensures;
       stands =
-          stands_pushed t s.sound c.requires.more r c.requires.coin c.push.result c.push.ensures c.copy-coin.new.v c.args.w.now c.copy-coin.new.h c.args.j.now
+          stands_pushed t s.sound c.requires.more r c.requires.coin c.push.result c.push.ensures c.copy_coin.new.v c.args.w.now c.copy_coin.new.h c.args.j.now
           (omega arith) (omega arith) (omega arith) (omega arith)
           (parts_copies modulus (layer_seen t.layer) (below_of t) (claim_held t) (values_held t) (copies_of t) (history t) t.factor t.at_x c.args.v.now c.args.w.now
-          c.args.h.now c.args.j.now s.parts r c.copy-coin.new.v c.copy-coin.new.h c.args.j.now few
-          (subst (λ (n : ℕ). CopyTables modulus (layer_seen t.layer) (below_of t) (claim_held t) (values_held t) (history t ++ (r ∷ [])) n c.copy-coin.new.v c.args.w.now c.copy-coin.new.h)
+          c.args.h.now c.args.j.now s.parts r c.copy_coin.new.v c.copy_coin.new.h c.args.j.now few
+          (subst (λ (n : ℕ). CopyTables modulus (layer_seen t.layer) (below_of t) (claim_held t) (values_held t) (history t ++ (r ∷ [])) n c.copy_coin.new.v c.args.w.now c.copy_coin.new.h)
           less tables));
     }
 
@@ -42,17 +42,17 @@ returns-then-drawn-copies-2 c =
     let s = c.requires.stands in
     let r = c.args.coin in
     let long = history-length t s.sound in
-    let less : c.copies-copies.result + c.size-below-below.result - t.drawn - 1 ≡ copies_of t + below_of t - length (history t) - 1 = omega arith in
-    let e = c.product-coin.ensures in
+    let less : c.copies-copies.result + c.size_below-below.result - t.drawn - 1 ≡ copies_of t + below_of t - length (history t) - 1 = omega arith in
+    let e = c.product_coin.ensures in
     record {
       pushed = c.push-then-drawn-copies-2.ensures;
       stands =
           stands_pushed t s.sound c.requires.more r c.requires.coin c.push-then-drawn-copies-2.result c.push-then-drawn-copies-2.ensures
-          c.product-coin.new.v c.args.w.now c.product-coin.new.h c.product-coin.new.j (omega arith) (omega arith) (omega arith) (omega arith)
+          c.product_coin.new.v c.args.w.now c.product_coin.new.h c.product_coin.new.j (omega arith) (omega arith) (omega arith) (omega arith)
           (parts_left modulus (layer_seen t.layer) (below_of t) (claim_held t) (values_held t) (copies_of t) (history t) t.factor t.at_x c.args.v.now c.args.w.now
-          c.args.h.now c.args.j.now s.parts r c.product-coin.new.v c.product-coin.new.h c.product-coin.new.j (omega arith) (omega arith)
-          (fixed_at _ _ r c.args.v.now c.product-coin.new.v less e.v) (fixed_at _ _ r c.args.h.now c.product-coin.new.h less e.h)
-          (fixed_at _ _ r c.args.j.now c.product-coin.new.j less e.j));
+          c.args.h.now c.args.j.now s.parts r c.product_coin.new.v c.product_coin.new.h c.product_coin.new.j (omega arith) (omega arith)
+          (fixed_at _ _ r c.args.v.now c.product_coin.new.v less e.v) (fixed_at _ _ r c.args.h.now c.product_coin.new.h less e.h)
+          (fixed_at _ _ r c.args.j.now c.product_coin.new.j less e.j));
     }
 
 pub returns : goal.returns
@@ -61,15 +61,15 @@ returns c =
     let s = c.requires.stands in
     let r = c.args.coin in
     let long = history-length t s.sound in
-    let less : c.copies-copies.result + 2 * c.size-below-below.result - t.drawn - 1 ≡ copies_of t + 2 * below_of t - length (history t) - 1 = omega arith in
-    let e = c.product-coin-2.ensures in
+    let less : c.copies-copies.result + 2 * c.size_below-below.result - t.drawn - 1 ≡ copies_of t + 2 * below_of t - length (history t) - 1 = omega arith in
+    let e = c.product_coin-2.ensures in
     record {
       pushed = c.push-2.ensures;
       stands =
           stands_pushed t s.sound c.requires.more r c.requires.coin c.push-2.result c.push-2.ensures
-          c.product-coin-2.new.v c.args.w.now c.product-coin-2.new.h c.product-coin-2.new.j (omega arith) (omega arith) (omega arith) (omega arith)
+          c.product_coin-2.new.v c.args.w.now c.product_coin-2.new.h c.product_coin-2.new.j (omega arith) (omega arith) (omega arith) (omega arith)
           (parts_right modulus (layer_seen t.layer) (below_of t) (claim_held t) (values_held t) (copies_of t) (history t) t.factor t.at_x c.args.v.now c.args.w.now
-          c.args.h.now c.args.j.now s.parts r c.product-coin-2.new.v c.product-coin-2.new.h c.product-coin-2.new.j (omega arith) (omega arith)
-          (fixed_at _ _ r c.args.v.now c.product-coin-2.new.v less e.v) (fixed_at _ _ r c.args.h.now c.product-coin-2.new.h less e.h)
-          (fixed_at _ _ r c.args.j.now c.product-coin-2.new.j less e.j));
+          c.args.h.now c.args.j.now s.parts r c.product_coin-2.new.v c.product_coin-2.new.h c.product_coin-2.new.j (omega arith) (omega arith)
+          (fixed_at _ _ r c.args.v.now c.product_coin-2.new.v less e.v) (fixed_at _ _ r c.args.h.now c.product_coin-2.new.h less e.h)
+          (fixed_at _ _ r c.args.j.now c.product_coin-2.new.j less e.j));
     }

@@ -16,13 +16,13 @@ returns c =
     let s = c.requires.sound.0 in
     let all = c.requires.sound.1 in
     let a = c.copies-copies.result in
-    let b = c.size-below-places.result in
+    let b = c.size_below-places.result in
     let el : layers_seen t.rest ≡ layer_seen c.first.result ∷ layers_seen c.rest.result =
     layers_split (layers_seen t.rest) (layers_seen c.rest.result) (layer_seen c.first.result) c.requires.some c.first.ensures.layer c.rest.ensures.layers in
     let ez : places_below c.first.result ≡ size_below (layers_seen c.rest.result) (inputs_below c.rest.result) =
     c.first.ensures.below ∙ sym (ap₂ (λ (ls : List Layer) (i : ℕ). size_below ls i) c.rest.ensures.layers c.rest.ensures.inputs) in
     let ea = c.copies-copies.ensures.value in
-    let eb = c.size-below-places.ensures.value in
+    let eb = c.size_below-places.ensures.value in
     record {
       heard =
           heard_made coin t _ _ s all refl refl refl el c.rest.ensures.copies c.rest.ensures.inputs refl ez refl a b ea eb

@@ -10,13 +10,13 @@ pub returns-then-prover-copies : goal.returns-then-prover-copies
 returns-then-prover-copies c =
     let t = c.args.prover in
     let more : t.drawn < variables_of t = omega arith in
-    let moved = c.take-coin-moved.result in
+    let moved = c.take_coin-moved.result in
     record {
       heard =
-          heard_alike c.args.coin t moved c.settle-right.result
-          (heard_same c.args.coin t moved (pushed c.args.coin t) c.take-coin-moved.ensures.pushed (heard_pushed t c.requires.stands.sound more c.args.coin))
-          (alike_settled moved c.settle-left-left.result c.settle-right.result _ _ c.settle-left-left.ensures.same c.settle-right.ensures.same);
-      stands = c.settle-right.ensures.stands;
+          heard_alike c.args.coin t moved c.settle_right.result
+          (heard_same c.args.coin t moved (pushed c.args.coin t) c.take_coin-moved.ensures.pushed (heard_pushed t c.requires.stands.sound more c.args.coin))
+          (alike_settled moved c.settle_left-left.result c.settle_right.result _ _ c.settle_left-left.ensures.same c.settle_right.ensures.same);
+      stands = c.settle_right.ensures.stands;
     }
 
 pub below-requires : goal.below-requires

@@ -37,8 +37,8 @@ returns c =
     let ez : places_below c.first.result ≡ size_below (layers_seen c.rest.result) (inputs_below c.rest.result) =
     c.first.ensures.below ∙ sym (ap₂ (λ (ls : List Layer) (i : ℕ). size_below ls i) c.rest.ensures.layers c.rest.ensures.inputs) in
     let ea : c.copies-copies.result ≡ seen.copies = c.copies-copies.ensures.value ∙ all.copies in
-    let eb : c.top-size-size.result ≡ output_size seen =
-    c.top-size-size.ensures.value ∙ ap₂ (λ (ls : List Layer) (i : ℕ). size_below ls i) all.layers all.inputs in
-    opened seen c.args.inputs.now c.args.coins.now _ el ec ei refl refl refl refl ez c.copies-copies.result c.top-size-size.result ea eb
-    c.cut-2.ensures.part c.cut.ensures.part c.requires.coins.0 (omega (arith, ea, eb, c.copies-copies.ensures.value, c.top-size-size.ensures.limit))
+    let eb : c.top_size-size.result ≡ output_size seen =
+    c.top_size-size.ensures.value ∙ ap₂ (λ (ls : List Layer) (i : ℕ). size_below ls i) all.layers all.inputs in
+    opened seen c.args.inputs.now c.args.coins.now _ el ec ei refl refl refl refl ez c.copies-copies.result c.top_size-size.result ea eb
+    c.cut-2.ensures.part c.cut.ensures.part c.requires.coins.0 (omega (arith, ea, eb, c.copies-copies.ensures.value, c.top_size-size.ensures.limit))
     c.requires.inputs.0 c.requires.inputs.1 (omega arith) (T_of_path (all_reduced (modulo modulus) c.cut-2.result) c.cut-2.ensures.reduced) (omega arith) refl tt

@@ -31,10 +31,10 @@ returns-then-drawn-copies c =
     let G : List ℕ → ℕ = λ z. sum_corners (modulo modulus) (below_of t) (λ x. sum_corners (modulo modulus) (below_of t) (λ y. term_of modulus (layer_seen t.layer) (below_of t) (claim_held t) (values_held t) (history t ++ z) x y)) in
     record {
       answer =
-          says_copies t s.sound (omega arith) c.copy-answer.result
-          (λ next. c.copy-answer.ensures.answer (claim_held t) (values_held t) (history t) tables next ∙ ap (λ (i : ℕ). respond (modulo modulus) i G next []) left);
-      length = four t.drawn (variables_of t) (length c.copy-answer.result) (omega arith) (omega arith);
-      reduced = c.copy-answer.ensures.reduced;
+          says_copies t s.sound (omega arith) c.copy_answer.result
+          (λ next. c.copy_answer.ensures.answer (claim_held t) (values_held t) (history t) tables next ∙ ap (λ (i : ℕ). respond (modulo modulus) i G next []) left);
+      length = four t.drawn (variables_of t) (length c.copy_answer.result) (omega arith) (omega arith);
+      reduced = c.copy_answer.ensures.reduced;
     }
 
 pub returns-then-drawn-copies-2 : goal.returns-then-drawn-copies-2
@@ -42,7 +42,7 @@ returns-then-drawn-copies-2 c =
     let t = c.args.prover in
     let s = c.requires in
     let long = history-length t s.sound in
-    let n : ℕ = c.copies-copies.result + c.size-below-below.result - t.drawn in
+    let n : ℕ = c.copies-copies.result + c.size_below-below.result - t.drawn in
     let same : copies_of t + below_of t - length (history t) ≡ n = omega arith in
     let left : n ≡ copies_of t + below_of t - t.drawn = omega arith in
     let x : List ℕ = drop (copies_of t) (history t) in
@@ -53,10 +53,10 @@ returns-then-drawn-copies-2 c =
     subst (λ (i : ℕ). ProductTables modulus F G i c.args.v.now c.args.h.now c.args.j.now) same (s.parts.over_left (omega arith) (omega arith)).tables in
     record {
       answer =
-          says_left t s.sound (omega arith) (omega arith) c.product-answer.result
-          (λ next. c.product-answer.ensures.answer F G tables next ∙ ap (λ (i : ℕ). respond (modulo modulus) i G next []) left);
-      length = four t.drawn (variables_of t) (length c.product-answer.result) (omega arith) (omega arith);
-      reduced = c.product-answer.ensures.reduced;
+          says_left t s.sound (omega arith) (omega arith) c.product_answer.result
+          (λ next. c.product_answer.ensures.answer F G tables next ∙ ap (λ (i : ℕ). respond (modulo modulus) i G next []) left);
+      length = four t.drawn (variables_of t) (length c.product_answer.result) (omega arith) (omega arith);
+      reduced = c.product_answer.ensures.reduced;
     }
 
 pub returns-then-drawn-copies-3 : goal.returns-then-drawn-copies-3
@@ -64,7 +64,7 @@ returns-then-drawn-copies-3 c =
     let t = c.args.prover in
     let s = c.requires in
     let long = history-length t s.sound in
-    let n : ℕ = c.copies-copies.result + 2 * c.size-below-below.result - t.drawn in
+    let n : ℕ = c.copies-copies.result + 2 * c.size_below-below.result - t.drawn in
     let same : copies_of t + 2 * below_of t - length (history t) ≡ n = omega arith in
     let left : n ≡ copies_of t + 2 * below_of t - t.drawn = omega arith in
     let place : List ℕ = take (copies_of t) (history t) in
@@ -72,8 +72,8 @@ returns-then-drawn-copies-3 c =
     let y : List ℕ = drop (copies_of t + below_of t) (history t) in
     let F : List ℕ → ℕ = λ z. mle (modulo modulus) (values_held t) (place ++ (y ++ z)) in
     let G : List ℕ → ℕ = λ z. term_of modulus (layer_seen t.layer) (below_of t) (claim_held t) (values_held t) place x (y ++ z) in
-    let r = c.product-answer-then-drawn-copies-3.result in
-    let e = c.product-answer-then-drawn-copies-3.ensures in
+    let r = c.product_answer-then-drawn-copies-3.result in
+    let e = c.product_answer-then-drawn-copies-3.ensures in
     let tables =
     subst (λ (i : ℕ). ProductTables modulus F G i c.args.v.now c.args.h.now c.args.j.now) same (s.parts.over_right (omega arith)).tables in
     record {

@@ -7,8 +7,8 @@ use Rattle.phases.proofs.Starting.{last_number}
 use Rattle.phases.proofs.StartsRead.{reduced_end}
 use Rattle.prover.proofs.settling.settle_left.Goals as goal
 
-pub start-left-factor-requires : goal.start-left-factor-requires
-start-left-factor-requires c =
+pub start_left-factor-requires : goal.start_left-factor-requires
+start_left-factor-requires c =
     let t = c.args.prover in
     let all : t.drawn ≡ copies_of t = omega arith in
     let tables = copies_at t c.args.v.now c.args.w.now c.args.h.now c.args.j.now c.requires all in
@@ -28,7 +28,7 @@ returns-then-prover-copies c =
     record {
       same = refl;
       stands =
-          left_settled t c.args.v.now c.args.w.now c.args.h.now c.args.j.now c.requires all c.start-left-factor.result
-          c.start-left-factor.new.w c.start-left-factor.new.h c.start-left-factor.new.j (omega arith) (omega arith) (omega arith)
-          (c.start-left-factor.ensures (claim_held t) (values_held t) (history t) tables);
+          left_settled t c.args.v.now c.args.w.now c.args.h.now c.args.j.now c.requires all c.start_left-factor.result
+          c.start_left-factor.new.w c.start_left-factor.new.h c.start_left-factor.new.j (omega arith) (omega arith) (omega arith)
+          (c.start_left-factor.ensures (claim_held t) (values_held t) (history t) tables);
     }

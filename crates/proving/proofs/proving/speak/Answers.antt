@@ -18,15 +18,15 @@ open-requires c =
       coins = (omega (arith, ready.coins_many), ready.coins_reduced);
     }
 
-pub answer-all-requires : goal.answer-all-requires
-answer-all-requires c =
+pub answer_all-requires : goal.answer_all-requires
+answer_all-requires c =
     let ready = c.requires in
     let coins = c.args.coins.now in
     let seen = circuit_seen c.args.circuit in
-    let first = c.first-coins-first.result in
+    let first = c.first_coins-first.result in
     let opened = c.open.ensures in
     let alike = c.begin-prover.ensures.alike in
-    let rest = later_coins coins first (first_coins seen) c.first-coins-first.ensures.value in
+    let rest = later_coins coins first (first_coins seen) c.first_coins-first.ensures.value in
     record {
       stands = c.begin-prover.ensures.stands;
       counts = (
@@ -41,11 +41,11 @@ returns c =
     let ready = c.requires in
     let coins = c.args.coins.now in
     let seen = circuit_seen c.args.circuit in
-    let first = c.first-coins-first.result in
+    let first = c.first_coins-first.result in
     record {
       room_is =
-          room_spoken seen c.args.inputs.now coins (take (length coins - first) (drop first coins)) c.answer-all.new.room c.open.result c.begin-prover.result
-          c.open.ensures c.begin-prover.ensures.alike (omega (arith, ready.coins_many)) (later_coins coins first (first_coins seen) c.first-coins-first.ensures.value)
-          c.answer-all.ensures.room;
-      room_reduced = c.answer-all.ensures.reduced;
+          room_spoken seen c.args.inputs.now coins (take (length coins - first) (drop first coins)) c.answer_all.new.room c.open.result c.begin-prover.result
+          c.open.ensures c.begin-prover.ensures.alike (omega (arith, ready.coins_many)) (later_coins coins first (first_coins seen) c.first_coins-first.ensures.value)
+          c.answer_all.ensures.room;
+      room_reduced = c.answer_all.ensures.reduced;
     }

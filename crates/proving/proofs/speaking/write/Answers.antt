@@ -9,10 +9,10 @@ returns-in-Round c =
     let at = c.args.at in
     let room = c.args.room.now in
     let xs = c.in-Round.numbers in
-    let new = c.copy-from-slice.new.self in
+    let new = c.copy_from_slice.new.self in
     let is : numbers_of c.args.answer ≡ xs = ap numbers_of c.in-Round.is in
     let four : length xs ≡ 4 = omega arith in
-    let after : new ≡ xs = c.copy-from-slice.ensures.after in
+    let after : new ≡ xs = c.copy_from_slice.ensures.after in
     let many = ap length is in
     record {
       place = ap (λ (n : ℕ). at + n) (sym (many ∙ four));
@@ -25,10 +25,10 @@ returns-in-Values c =
     let at = c.args.at in
     let room = c.args.room.now in
     let xs = c.in-Values.numbers in
-    let new = c.copy-from-slice-in-Values.new.self in
+    let new = c.copy_from_slice-in-Values.new.self in
     let is : numbers_of c.args.answer ≡ xs = ap numbers_of c.in-Values.is in
     let two : length xs ≡ 2 = omega arith in
-    let after : new ≡ xs = c.copy-from-slice-in-Values.ensures.after in
+    let after : new ≡ xs = c.copy_from_slice-in-Values.ensures.after in
     let many = ap length is in
     record {
       place = ap (λ (n : ℕ). at + n) (sym (many ∙ two));

@@ -3,22 +3,22 @@ use Rattle.arithmetic.proofs.Newton.{reduced_at}
 use Rattle.rounds.proofs.RowSteps.{four_line}
 use Rattle.rounds.proofs.copies.add_gate.Goals as goal
 
-pub line-values-left-requires : goal.line-values-left-requires
-line-values-left-requires g c =
+pub line_values-left-requires : goal.line_values-left-requires
+line_values-left-requires g c =
     let p = g.M.Modular.modulus in
     (reduced_at p c.args.low.now c.requires.low c.args.gate.left c.requires.left.0, reduced_at p c.args.high.now c.requires.high c.args.gate.left c.requires.left.1)
 
-pub line-values-right-requires : goal.line-values-right-requires
-line-values-right-requires g c =
+pub line_values-right-requires : goal.line_values-right-requires
+line_values-right-requires g c =
     let p = g.M.Modular.modulus in
     (reduced_at p c.args.low.now c.requires.low c.args.gate.right c.requires.right.0, reduced_at p c.args.high.now c.requires.high c.args.gate.right c.requires.right.1)
 
 pub returns : goal.returns
 returns g c =
     let p = g.M.Modular.modulus in
-    let left = four_line p _ _ c.line-values-left.result c.line-values-left.ensures.values c.line-values-left.ensures.below in
-    let right = four_line p _ _ c.line-values-right.result c.line-values-right.ensures.values c.line-values-right.ensures.below in
+    let left = four_line p _ _ c.line_values-left.result c.line_values-left.ensures.values c.line_values-left.ensures.below in
+    let right = four_line p _ _ c.line_values-right.result c.line_values-right.ensures.values c.line_values-right.ensures.below in
     record {
-      values = λ f sums. c.add-each.ensures.values _ f (c.scale-each.ensures.values _ (c.combine-each-value.ensures.values _ _ left right)) sums;
-      below = c.add-each.ensures.below;
+      values = λ f sums. c.add_each.ensures.values _ f (c.scale_each.ensures.values _ (c.combine_each-value.ensures.values _ _ left right)) sums;
+      below = c.add_each.ensures.below;
     }

@@ -20,18 +20,18 @@ loop-i-init g c =
 inside_row : (e v places m i : ℕ) → places ≡ 2 ^ m → v ≡ e * 2 ^ m → i < e → i * places + places ≤ v
 inside_row e v places m i ep ev h = row_within i e places v h (ev ∙ ap (λ (k : ℕ). e * k) (sym ep))
 
-pub row-at-low-requires : goal.row-at-low-requires
-row-at-low-requires g c =
+pub row_at-low-requires : goal.row_at-low-requires
+row_at-low-requires g c =
     inside_row (length c.args.eq.now) (length c.args.values.now) c.args.places (places_below c.args.layer) (c.loop-i.i - 1)
     c.requires.places c.requires.values.0 (omega arith)
 
-pub row-at-high-requires : goal.row-at-high-requires
-row-at-high-requires g c =
+pub row_at-high-requires : goal.row_at-high-requires
+row_at-high-requires g c =
     inside_row (length c.args.eq.now) (length c.args.values.now) c.args.places (places_below c.args.layer)
     (length c.args.eq.now / 2 + (c.loop-i.i - 1)) c.requires.places c.requires.values.0 (omega arith)
 
-pub sum-row-row-requires : goal.sum-row-row-requires
-sum-row-row-requires g c =
+pub sum_row-row-requires : goal.sum_row-row-requires
+sum_row-row-requires g c =
     let p = g.M.Modular.modulus in
     let m : ℕ = places_below c.args.layer in
     let i : ℕ = c.loop-i.i - 1 in
@@ -39,19 +39,19 @@ sum-row-row-requires g c =
     let e : ℕ = length c.args.eq.now in
     let v = c.args.values.now in
     let within = inside_row e (length v) c.args.places m in
-    let low = row_read p m i c.args.places v c.row-at-low.result.now c.row-at-low.ensures c.requires.places (within i c.requires.places c.requires.values.0 (omega arith)) c.requires.values.1 in
-    let high = row_read p m j c.args.places v c.row-at-high.result.now c.row-at-high.ensures c.requires.places (within j c.requires.places c.requires.values.0 (omega arith)) c.requires.values.1 in
+    let low = row_read p m i c.args.places v c.row_at-low.result.now c.row_at-low.ensures c.requires.places (within i c.requires.places c.requires.values.0 (omega arith)) c.requires.values.1 in
+    let high = row_read p m j c.args.places v c.row_at-high.result.now c.row_at-high.ensures c.requires.places (within j c.requires.places c.requires.values.0 (omega arith)) c.requires.values.1 in
     record { weights = c.requires.weights; low = (low.long, low.reduced); high = (high.long, high.reduced) }
 
-pub line-values-factors-requires : goal.line-values-factors-requires
-line-values-factors-requires g c =
+pub line_values-factors-requires : goal.line_values-factors-requires
+line_values-factors-requires g c =
     place_below g.M.Modular.modulus c.args.eq.now (length c.args.eq.now / 2) (c.loop-i.i - 1) c.requires.eq (omega arith) (omega arith)
 
-pub mul-each-requires : goal.mul-each-requires
-mul-each-requires g c = record { a = c.line-values-factors.ensures.below; b = c.sum-row-row.ensures.below }
+pub mul_each-requires : goal.mul_each-requires
+mul_each-requires g c = record { a = c.line_values-factors.ensures.below; b = c.sum_row-row.ensures.below }
 
-pub add-each-sums-requires : goal.add-each-sums-requires
-add-each-sums-requires g c = record { a = c.mul-each.ensures.below; b = all_below g.M.Modular.modulus _ c.loop-i.sums c.loop-i.invariant }
+pub add_each-sums-requires : goal.add_each-sums-requires
+add_each-sums-requires g c = record { a = c.mul_each.ensures.below; b = all_below g.M.Modular.modulus _ c.loop-i.sums c.loop-i.invariant }
 
 pub loop-i-preserved : goal.loop-i-preserved
 loop-i-preserved g c =
@@ -65,15 +65,15 @@ loop-i-preserved g c =
     let half : ℕ = length es / 2 in
     let i : ℕ = c.loop-i.i - 1 in
     let after : c.loop-i.i ≡ i + 1 = omega arith in
-    let line = four_line p _ _ c.line-values-factors.result c.line-values-factors.ensures.values c.line-values-factors.ensures.below in
-    let low : c.row-at-low.result.now ≡ row m i v = c.row-at-low.ensures ∙ ap (λ (k : ℕ). take k (drop (i * k) v)) c.requires.places in
-    let high : c.row-at-high.result.now ≡ row m (half + i) v = c.row-at-high.ensures ∙ ap (λ (k : ℕ). take k (drop ((half + i) * k) v)) c.requires.places in
-    four_same p _ (rows_sum N m gs ws half es v i (half - i)) c.add-each-sums.result
+    let line = four_line p _ _ c.line_values-factors.result c.line_values-factors.ensures.values c.line_values-factors.ensures.below in
+    let low : c.row_at-low.result.now ≡ row m i v = c.row_at-low.ensures ∙ ap (λ (k : ℕ). take k (drop (i * k) v)) c.requires.places in
+    let high : c.row_at-high.result.now ≡ row m (half + i) v = c.row_at-high.ensures ∙ ap (λ (k : ℕ). take k (drop ((half + i) * k) v)) c.requires.places in
+    four_same p _ (rows_sum N m gs ws half es v i (half - i)) c.add_each-sums.result
     (λ t.
     ap₂ (λ (l h : List ℕ). N.add (N.mul (on_line N t (get_or es i 0) (get_or es (half + i) 0)) (row_sum N gs ws l h t)) (rows_sum N m gs ws half es v c.loop-i.i (half - c.loop-i.i) t)) low high
     ∙ ap (λ (k : ℕ). N.add (N.mul (on_line N t (get_or es i 0) (get_or es (half + i) 0)) (row_sum N gs ws (row m i v) (row m (half + i) v) t)) (rows_sum N m gs ws half es v k (half - k) t)) after
     ∙ rows_more p m gs ws half es v i t (omega arith))
-    (c.add-each-sums.ensures.values _ _ (c.mul-each.ensures.values _ _ line c.sum-row-row.ensures.values) c.loop-i.invariant)
+    (c.add_each-sums.ensures.values _ _ (c.mul_each.ensures.values _ _ line c.sum_row-row.ensures.values) c.loop-i.invariant)
 
 pub returns : goal.returns
 returns g c =

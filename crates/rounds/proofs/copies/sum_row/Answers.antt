@@ -17,8 +17,8 @@ loop-i-init g c =
     four_zeros p (omega (arith, g.met.M.Modular.above)) _
     (λ t. row_none p gs ws c.args.low.now c.args.high.now (length ws) t many)
 
-pub add-gate-sums-requires : goal.add-gate-sums-requires
-add-gate-sums-requires g c =
+pub add_gate-sums-requires : goal.add_gate-sums-requires
+add_gate-sums-requires g c =
     let p = g.M.Modular.modulus in
     let e = c.gate.ensures in
     record {
@@ -42,9 +42,9 @@ loop-i-preserved g c =
     let after : c.loop-i.i ≡ i + 1 = omega arith in
     let many : length gs ≡ length ws = omega (arith, length-gates_of (2 ^ size_seen c.args.layer) c.args.layer.words.now) in
     let inside : i < length gs = omega arith in
-    four_same p _ (row_sum N (drop i gs) (drop i ws) low high) c.add-gate-sums.result
+    four_same p _ (row_sum N (drop i gs) (drop i ws) low high) c.add_gate-sums.result
     (λ t.
     ap (λ gate. N.add (N.mul (get_or ws i 0) (gate_on_line N gate low high t)) (row_sum N (drop c.loop-i.i gs) (drop c.loop-i.i ws) low high t)) c.gate.ensures.value
     ∙ ap (λ (k : ℕ). N.add (N.mul (get_or ws i 0) (gate_on_line N (get_or gs i no_gate) low high t)) (row_sum N (drop k gs) (drop k ws) low high t)) after
     ∙ row_more p gs ws low high i no_gate t inside (omega arith))
-    (c.add-gate-sums.ensures.values _ c.loop-i.invariant)
+    (c.add_gate-sums.ensures.values _ c.loop-i.invariant)

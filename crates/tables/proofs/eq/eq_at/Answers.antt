@@ -11,8 +11,8 @@ loop-i-init g c =
     let p = g.M.Modular.modulus in
     (sym (eq_none (modulo p) (length c.args.a.now) c.args.a.now c.args.b.now (omega arith)), omega (arith, g.met.M.Modular.above))
 
-pub eq-factor-requires : goal.eq-factor-requires
-eq-factor-requires g c =
+pub eq_factor-requires : goal.eq_factor-requires
+eq_factor-requires g c =
     let p = g.M.Modular.modulus in
     let positive : 0 < p = omega (arith, g.met.M.Modular.above) in
     (reduced_anywhere p positive c.args.a.now c.requires.a_reduced _, reduced_anywhere p positive c.args.b.now c.requires.b_reduced _)

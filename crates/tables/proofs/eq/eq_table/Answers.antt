@@ -12,7 +12,7 @@ returns g c =
     let one = scaled_one p several point in
     record {
       words =
-          subst (λ (es : List ℕ). c.eq-table-scaled.new.out ≡ es ++ drop (2 ^ length point) c.args.out.now) one
-          c.eq-table-scaled.ensures.words;
-      reduced = subst (λ (es : List ℕ). T (all_reduced (modulo p) es)) one c.eq-table-scaled.ensures.reduced;
+          subst (λ (es : List ℕ). c.eq_table_scaled.new.out ≡ es ++ drop (2 ^ length point) c.args.out.now) one
+          c.eq_table_scaled.ensures.words;
+      reduced = subst (λ (es : List ℕ). T (all_reduced (modulo p) es)) one c.eq_table_scaled.ensures.reduced;
     }

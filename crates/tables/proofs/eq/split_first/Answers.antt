@@ -19,7 +19,7 @@ mul-high-requires g c =
     partly_below p positive (low_part (modulo p) c.args.r) (high_part (modulo p) c.args.r) (length xs / 2) c.loop-i.i xs c.loop-i.table
     c.loop-i.invariant c.loop-i-test.true (omega arith) c.requires.reduced
     in
-    (below, c.requires.r-below)
+    (below, c.requires.r_below)
 
 pub sub-requires : goal.sub-requires
 sub-requires g c =

@@ -9,15 +9,15 @@ pub loop-i-init : goal.loop-i-init
 loop-i-init g c =
     partly_none (modulo g.M.Modular.modulus) c.args.r (length c.args.table.now / 2) c.args.table.now
 
-pub at-line-requires : goal.at-line-requires
-at-line-requires g c =
+pub at_line-requires : goal.at_line-requires
+at_line-requires g c =
     let p = g.M.Modular.modulus in
     let xs = c.args.table.now in
     let positive : 0 < p = omega (arith, g.met.M.Modular.above) in
     let kept = partly_reduced p positive c.args.r (length xs / 2) c.loop-i.i xs c.requires.reduced in
     let reduced = subst (λ (l : List ℕ). T (all_reduced (modulo p) l)) (sym c.loop-i.invariant) kept in
     let below = reduced_anywhere p positive c.loop-i.table reduced in
-    ((below _, below _), c.requires.r-below)
+    record { a_lt_modulus = (below _, below _); r_lt_modulus = c.requires.r_below }
 
 pub loop-i-preserved : goal.loop-i-preserved
 loop-i-preserved g c =

@@ -7,19 +7,19 @@ use Rattle.tables.proofs.halving.mle_at.Goals as goal
 pub loop-i-init : goal.loop-i-init
 loop-i-init g c = halving_none g.M.Modular.modulus c.args.table.now c.args.point.now c.requires.length c.requires.reduced
 
-pub fix-first-requires : goal.fix-first-requires
-fix-first-requires g c =
+pub fix_first-requires : goal.fix_first-requires
+fix_first-requires g c =
     let p = g.M.Modular.modulus in
     let positive : 0 < p = omega (arith, g.met.M.Modular.above) in
     record {
       reduced = reduced_take p (c.loop-i.len - 0) c.loop-i.table c.loop-i.invariant.reduced;
-      r-below = reduced_anywhere p positive c.args.point.now c.requires.point_reduced _;
+      r_below = reduced_anywhere p positive c.args.point.now c.requires.point_reduced _;
     }
 
 pub loop-i-preserved : goal.loop-i-preserved
 loop-i-preserved g c =
-    halving_more c.loop-i.invariant c.fix-first.new.table (c.loop-i.len - 0) (omega arith) c.loop-i-test.true
-    c.fix-first.ensures.words c.fix-first.ensures.reduced
+    halving_more c.loop-i.invariant c.fix_first.new.table (c.loop-i.len - 0) (omega arith) c.loop-i-test.true
+    c.fix_first.ensures.words c.fix_first.ensures.reduced
 
 pub returns : goal.returns
 returns g c =

@@ -3,6 +3,6 @@ use Rattle.std.proofs.Common.{refl}
 use Rattle.arithmetic.specs.Numbers.{all_reduced}
 use Rattle.tables.proofs.tests.looks_up_off_the_corners.Goals as goal
 
-pub mle-at-requires : goal.mle-at-requires
+pub mle_at-requires : goal.mle_at-requires
 unfolding all_reduced
-mle-at-requires c = record { length = refl; reduced = tt; point_reduced = tt }
+mle_at-requires c = record { length = refl; reduced = tt; point_reduced = tt }

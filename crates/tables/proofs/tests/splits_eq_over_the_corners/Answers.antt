@@ -3,10 +3,10 @@ use Rattle.std.proofs.Common.{refl, lit≤}
 use Rattle.arithmetic.specs.Numbers.{all_reduced}
 use Rattle.tables.proofs.tests.splits_eq_over_the_corners.Goals as goal
 
-pub eq-table-requires : goal.eq-table-requires
+pub eq_table-requires : goal.eq_table-requires
 unfolding all_reduced
-eq-table-requires c = record { room = lit≤ tt; point_reduced = tt }
+eq_table-requires c = record { room = lit≤ tt; point_reduced = tt }
 
-pub eq-at-requires : goal.eq-at-requires
+pub eq_at-requires : goal.eq_at-requires
 unfolding all_reduced
-eq-at-requires c = record { length = refl; a_reduced = tt; b_reduced = tt }
+eq_at-requires c = record { length = refl; a_reduced = tt; b_reduced = tt }

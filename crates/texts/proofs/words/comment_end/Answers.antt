@@ -7,14 +7,14 @@ pub loop-at-preserved : goal.loop-at-preserved
 loop-at-preserved c = (
   omega arith,
   omega arith,
-  comment_goes_on c.args.text.now c.loop-at.at c.loop-at-test.true c.if-text-at-ne-LINE-END.true ∙ c.loop-at.invariant.2,
+  comment_goes_on c.args.text.now c.loop-at.at c.loop-at-test.true c.if-text-at-ne-LINE_END.true ∙ c.loop-at.invariant.2,
 )
 
-pub returns-else-text-at-ne-LINE-END : goal.returns-else-text-at-ne-LINE-END
-returns-else-text-at-ne-LINE-END c = record {
+pub returns-else-text-at-ne-LINE_END : goal.returns-else-text-at-ne-LINE_END
+returns-else-text-at-ne-LINE_END c = record {
   forward = omega arith;
   within = omega arith;
-  same = comment_ends c.args.text.now c.loop-at.at (λ h. c.if-text-at-ne-LINE-END.false) ∙ c.loop-at.invariant.2;
+  same = comment_ends c.args.text.now c.loop-at.at (λ h. c.if-text-at-ne-LINE_END.false) ∙ c.loop-at.invariant.2;
 }
 
 pub returns-after-loop-at : goal.returns-after-loop-at

@@ -5,7 +5,7 @@ use Rattle.texts.proofs.Steps.{outside}
 use Rattle.texts.proofs.words.word_start.Given as goal
 
 abbrev pub invariant-loop-at : goal.invariant-loop-at
-invariant-loop-at l = (l.from ≤ l.at) × (l.at ≤ length l.text) × (read_from (outside l.line-start) (drop l.at l.text) ≡ read_from first (drop l.from l.text))
+invariant-loop-at l = (l.from ≤ l.at) × (l.at ≤ length l.text) × (read_from (outside l.line_start) (drop l.at l.text) ≡ read_from first (drop l.from l.text))
 
 abbrev pub decreases-loop-at : goal.decreases-loop-at
 decreases-loop-at l = length l.text - l.at

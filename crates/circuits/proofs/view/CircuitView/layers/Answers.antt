@@ -6,13 +6,13 @@ use Rattle.circuits.specs.Parts.{are_layers}
 use Rattle.circuits.proofs.Parts.{circuit_layers, layers_from}
 use Rattle.circuits.proofs.view.CircuitView.layers.Goals as goal
 
-pub invariant-of-result : goal.invariant-of-result
-invariant-of-result c =
-    let ws = c.args.self.words.now in (
-      ap (are_layers (word ws 0) (word ws 1) (word ws 2)) (take_rest ws 3)
-          ∙ layers_from (word ws 0) (word ws 1) (word ws 2) (drop 3 ws) (circuit_layers ws c.args.self.lawful),
-      tt,
-    )
+pub invariant_of-result : goal.invariant_of-result
+invariant_of-result c =
+    let ws = c.args.self.words.now in
+    record {
+      lawful = ap (are_layers (word ws 0) (word ws 1) (word ws 2)) (take_rest ws 3)
+          ∙ layers_from (word ws 0) (word ws 1) (word ws 2) (drop 3 ws) (circuit_layers ws c.args.self.lawful);
+    }
 
 pub returns : goal.returns
 returns c =

@@ -7,6 +7,6 @@ pub returns : goal.returns
 returns c =
     let copies = c.args.self.copies in
     record {
-      value = c.power.ensures.value ∙ pow-add 2 copies c.top-size.result ∙ ap (λ k. 2 ^ copies * 2 ^ k) c.top-size.ensures.value;
+      value = c.power.ensures.value ∙ pow-add 2 copies c.top_size.result ∙ ap (λ k. 2 ^ copies * 2 ^ k) c.top_size.ensures.value;
       limit = c.power.ensures.limit;
     }

@@ -14,14 +14,14 @@ answered ws a b e h k =
     let r = take_rest ws 3 in
     cc
 
-pub returns-then-is-shaped : goal.returns-then-is-shaped
-returns-then-is-shaped c =
+pub returns-then-is_shaped : goal.returns-then-is_shaped
+returns-then-is_shaped c =
     let ws = c.args.words.now in
-    answered ws true c.layers-fit.result (circuit_by ws (omega arith) (omega arith) (omega arith) (omega arith) (omega arith)) c.if-is-shaped.ensures c.layers-fit.ensures
+    answered ws true c.layers_fit.result (circuit_by ws (omega arith) (omega arith) (omega arith) (omega arith) (omega arith)) c.if-is_shaped.ensures c.layers_fit.ensures
 
-pub returns-else-is-shaped : goal.returns-else-is-shaped
-returns-else-is-shaped c =
+pub returns-else-is_shaped : goal.returns-else-is_shaped
+returns-else-is_shaped c =
     let ws = c.args.words.now in
     let b : Bool = layers_fit (layers_of (word ws 2) (take (length ws - 3) (drop 3 ws))) (word ws 1) in
-    c.if-is-shaped.false
-    ∙ answered ws false b (circuit_by ws (omega arith) (omega arith) (omega arith) (omega arith) (omega arith)) c.if-is-shaped.ensures refl
+    c.if-is_shaped.false
+    ∙ answered ws false b (circuit_by ws (omega arith) (omega arith) (omega arith) (omega arith) (omega arith)) c.if-is_shaped.ensures refl

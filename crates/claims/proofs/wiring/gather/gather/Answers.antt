@@ -12,14 +12,14 @@ loop-i-init g c =
     let p = g.M.Modular.modulus in
     let gates = gates_seen c.args.layer in
     let positive : 0 < p = omega (arith, g.met.M.Modular.above) in
-    let all : length gates ≤ c.gate-count-i.result = omega (arith, length-gates_of (2 ^ c.args.layer.size) c.args.layer.words.now) in
-    gathered_none p c.args.weights.now c.args.at-x.now c.args.at-y.now gates c.gate-count-i.result all positive
+    let all : length gates ≤ c.gate_count-i.result = omega (arith, length-gates_of (2 ^ c.args.layer.size) c.args.layer.words.now) in
+    gathered_none p c.args.weights.now c.args.at_x.now c.args.at_y.now gates c.gate_count-i.result all positive
 
 pub mul-requires : goal.mul-requires
 mul-requires g c =
     let p = g.M.Modular.modulus in (
-      reduced_at p c.args.at-x.now c.requires.at_x.1 c.gate-gate.result.left (omega arith),
-      reduced_at p c.args.at-y.now c.requires.at_y.1 c.gate-gate.result.right (omega arith),
+      reduced_at p c.args.at_x.now c.requires.at_x.1 c.gate-gate.result.left (omega arith),
+      reduced_at p c.args.at_y.now c.requires.at_y.1 c.gate-gate.result.right (omega arith),
     )
 
 pub mul-term-requires : goal.mul-term-requires
@@ -34,10 +34,10 @@ loop-i-preserved g c =
     let i : ℕ = c.loop-i.i - 1 in
     let after : c.loop-i.i ≡ i + 1 = omega arith in
     let place : i < length gates = omega (arith, length-gates_of (2 ^ c.args.layer.size) c.args.layer.words.now) in
-    let before : Gathered p c.args.weights.now c.args.at-x.now c.args.at-y.now gates (i + 1) c.loop-i.gathered =
-    subst (λ (n : ℕ). Gathered p c.args.weights.now c.args.at-x.now c.args.at-y.now gates n c.loop-i.gathered) after c.loop-i.invariant
+    let before : Gathered p c.args.weights.now c.args.at_x.now c.args.at_y.now gates (i + 1) c.loop-i.gathered =
+    subst (λ (n : ℕ). Gathered p c.args.weights.now c.args.at_x.now c.args.at_y.now gates n c.loop-i.gathered) after c.loop-i.invariant
     in
-    gathered_more p c.args.weights.now c.args.at-x.now c.args.at-y.now gates i no_gate (gate_meant c.gate-gate.result)
-    c.mul.result c.mul-term.result c.loop-i.gathered c.add-term-gathered.result place c.gate-gate.ensures.value before c.mul.ensures.value
-    c.mul-term.ensures.value c.add-term-gathered.ensures.sums c.add-term-gathered.ensures.products c.add-term-gathered.ensures.below.0
-    c.add-term-gathered.ensures.below.1
+    gathered_more p c.args.weights.now c.args.at_x.now c.args.at_y.now gates i no_gate (gate_meant c.gate-gate.result)
+    c.mul.result c.mul-term.result c.loop-i.gathered c.add_term-gathered.result place c.gate-gate.ensures.value before c.mul.ensures.value
+    c.mul-term.ensures.value c.add_term-gathered.ensures.sums c.add_term-gathered.ensures.products c.add_term-gathered.ensures.below.0
+    c.add_term-gathered.ensures.below.1

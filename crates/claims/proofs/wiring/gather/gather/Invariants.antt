@@ -4,4 +4,4 @@ use Rattle.claims.specs.Gathered.{Gathered}
 use Rattle.claims.proofs.wiring.gather.gather.Given as goal
 
 abbrev pub invariant-loop-i : goal.invariant-loop-i
-invariant-loop-i g l = Gathered g.M.Modular.modulus l.weights l.at-x l.at-y (gates_seen l.layer) l.i l.gathered
+invariant-loop-i g l = Gathered g.M.Modular.modulus l.weights l.at_x l.at_y (gates_seen l.layer) l.i l.gathered

@@ -22,17 +22,17 @@ pub gather-requires : goal.gather-requires
 gather-requires g c =
     let p = g.M.Modular.modulus in
     let below = c.args.layer.below in
-    let is_x = room_is p below c.args.x.now c.args.at-x.now c.eq-table.new.out c.requires.x.0 c.requires.room.0 c.eq-table.ensures.words in
-    let is_y = room_is p below c.args.y.now c.args.at-y.now c.eq-table-2.new.out c.requires.y.0 c.requires.room.1 c.eq-table-2.ensures.words in
+    let is_x = room_is p below c.args.x.now c.args.at_x.now c.eq_table.new.out c.requires.x.0 c.requires.room.0 c.eq_table.ensures.words in
+    let is_y = room_is p below c.args.y.now c.args.at_y.now c.eq_table-2.new.out c.requires.y.0 c.requires.room.1 c.eq_table-2.ensures.words in
     record {
       weights = c.requires.weights;
       at_x = (
-        long_is p below c.args.x.now c.eq-table.new.out c.requires.x.0 is_x,
-        subst (λ (xs : List ℕ). T (all_reduced (modulo p) xs)) (sym is_x) c.eq-table.ensures.reduced,
+        long_is p below c.args.x.now c.eq_table.new.out c.requires.x.0 is_x,
+        subst (λ (xs : List ℕ). T (all_reduced (modulo p) xs)) (sym is_x) c.eq_table.ensures.reduced,
       );
       at_y = (
-        long_is p below c.args.y.now c.eq-table-2.new.out c.requires.y.0 is_y,
-        subst (λ (xs : List ℕ). T (all_reduced (modulo p) xs)) (sym is_y) c.eq-table-2.ensures.reduced,
+        long_is p below c.args.y.now c.eq_table-2.new.out c.requires.y.0 is_y,
+        subst (λ (xs : List ℕ). T (all_reduced (modulo p) xs)) (sym is_y) c.eq_table-2.ensures.reduced,
       );
     }
 
@@ -42,8 +42,8 @@ returns g c =
     let several : 1 < p = omega (arith, g.met.M.Modular.above) in
     let layer = c.args.layer in
     let below = layer.below in
-    let is_x = room_is p below c.args.x.now c.args.at-x.now c.eq-table.new.out c.requires.x.0 c.requires.room.0 c.eq-table.ensures.words in
-    let is_y = room_is p below c.args.y.now c.args.at-y.now c.eq-table-2.new.out c.requires.y.0 c.requires.room.1 c.eq-table-2.ensures.words in
-    wired p several c.args.weights.now c.eq-table.new.out c.eq-table-2.new.out c.args.x.now c.args.y.now below
+    let is_x = room_is p below c.args.x.now c.args.at_x.now c.eq_table.new.out c.requires.x.0 c.requires.room.0 c.eq_table.ensures.words in
+    let is_y = room_is p below c.args.y.now c.args.at_y.now c.eq_table-2.new.out c.requires.y.0 c.requires.room.1 c.eq_table-2.ensures.words in
+    wired p several c.args.weights.now c.eq_table.new.out c.eq_table-2.new.out c.args.x.now c.args.y.now below
     (gates_seen layer) c.gather.result (layer_parts layer.size below layer.words.now layer.lawful).fits c.requires.x.0 c.requires.y.0 is_x is_y
     c.gather.ensures

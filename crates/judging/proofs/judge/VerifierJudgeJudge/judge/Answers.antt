@@ -8,8 +8,8 @@ returns-in-Ok c =
     record {
       answer = c.in-Ok.ensures;
       sound = judges_soundly c.args.circuit.now c.args.inputs.now c.args.claimed.now;
-      sound-in-rows = judges_rows_soundly c.args.circuit.now c.args.inputs.now c.args.claimed.now;
-      sound-for-provers = judges_provers_soundly c.args.circuit.now c.args.inputs.now c.args.claimed.now;
+      sound_in_rows = judges_rows_soundly c.args.circuit.now c.args.inputs.now c.args.claimed.now;
+      sound_for_provers = judges_provers_soundly c.args.circuit.now c.args.inputs.now c.args.claimed.now;
     }
 
 pub returns-in-Err : goal.returns-in-Err
@@ -17,6 +17,6 @@ returns-in-Err c =
     record {
       answer = c.number.ensures ∙ c.in-Err.ensures;
       sound = judges_soundly c.args.circuit.now c.args.inputs.now c.args.claimed.now;
-      sound-in-rows = judges_rows_soundly c.args.circuit.now c.args.inputs.now c.args.claimed.now;
-      sound-for-provers = judges_provers_soundly c.args.circuit.now c.args.inputs.now c.args.claimed.now;
+      sound_in_rows = judges_rows_soundly c.args.circuit.now c.args.inputs.now c.args.claimed.now;
+      sound_for_provers = judges_provers_soundly c.args.circuit.now c.args.inputs.now c.args.claimed.now;
     }

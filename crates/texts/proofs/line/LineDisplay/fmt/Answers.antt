@@ -23,7 +23,7 @@ loop-number-preserved g c =
       sym (gap_more ns i c.loop-number-test.true),
       λ plain.
           let so = c.loop-number.invariant.2 plain in
-          let more : HasWritten g.W.Write.write_str_gives c.loop-number.f (c.loop-number.gap.now ++ decimal (get_or ns i 0)) c.write.new.self = c.write.ensures.writes so.plain (is_ok_of_ok c.write.result c.in-ok-write.field-0 c.in-ok-write.was) in
+          let more : HasWritten g.W.Write.write_str_gives c.loop-number.f (c.loop-number.gap.now ++ decimal (get_or ns i 0)) c.write.new.self = c.write.ensures.writes so.plain (is_ok_of_ok c.write.result c.in_ok-write.field-0 c.in_ok-write.was) in
           has_written_of_eq g.W.Write.write_str_gives c.args.f.now (line_of (take i ns) ++ (c.loop-number.gap.now ++ decimal (get_or ns i 0))) (line_of (take (i + 1) ns)) c.write.new.self grown (has_written_append g.W.Write.write_str_gives c.args.f.now (line_of (take i ns)) c.loop-number.f (c.loop-number.gap.now ++ decimal (get_or ns i 0)) c.write.new.self so more),
     )
 

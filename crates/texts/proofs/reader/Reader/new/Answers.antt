@@ -5,4 +5,4 @@ use Rattle.texts.proofs.OneReading.{one_reading as only_one}
 use Rattle.texts.proofs.reader.Reader.new.Goals as goal
 
 pub returns : goal.returns
-returns c = record { whole = refl; one-reading = only_one; line-by-line = by_line }
+returns c = record { whole = refl; one_reading = only_one; line_by_line = by_line }

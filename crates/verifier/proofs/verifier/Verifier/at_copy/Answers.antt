@@ -8,8 +8,8 @@ use Rattle.verifier.specs.Meaning.{stand_of}
 use Rattle.verifier.proofs.PointParts.{part_c}
 use Rattle.verifier.proofs.verifier.Verifier.at_copy.Goals as goal
 
-pub eq-at-requires : goal.eq-at-requires
-eq-at-requires c =
+pub eq_at-requires : goal.eq_at-requires
+eq_at-requires c =
     let v = c.args.self.now in
     let long : length v.point ≡ 32 = search rules in
     let room : length v.claim.copy ≡ 16 = search rules in
@@ -28,8 +28,8 @@ returns c =
     let count : c.copies-copies.result - 0 ≡ (stand_of v).copies = omega arith in
     record {
       value =
-          c.eq-at.ensures.value ∙
+          c.eq_at.ensures.value ∙
           ap (λ (n : ℕ). eq_poly numbers (take n v.claim.copy) (take n v.point)) count ∙
           ap (eq_poly numbers (stand_of v).claim.copy) (sym (part_c v long c.requires.some c.requires.done));
-      below = c.eq-at.ensures.below;
+      below = c.eq_at.ensures.below;
     }

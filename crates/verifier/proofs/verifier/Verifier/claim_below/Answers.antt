@@ -12,7 +12,7 @@ returns c =
     let s = stand_of v in
     let long : length v.point ≡ 32 = search rules in
     let copies : c.copies-copies.result ≡ s.copies = c.copies-copies.ensures.value in
-    let below : c.size-below-below.result ≡ size_under s = c.size-below-below.ensures.value in
+    let below : c.size_below-below.result ≡ size_under s = c.size_below-below.ensures.value in
     let front : take c.copies-copies.result c.cut-copy.result ≡ take c.copies-copies.result (drop 0 v.point) = c.cut-copy.ensures.part in
     let cut_c : take s.copies c.cut-copy.result ≡ point_c s =
     cut_is c.copies-copies.result s.copies 0 0 c.cut-copy.result v.point front copies (omega arith) ∙ sym (part_c v long c.requires.some c.requires.done)

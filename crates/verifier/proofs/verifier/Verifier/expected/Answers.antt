@@ -23,6 +23,6 @@ returns c =
     let a = c.args.a in
     let b = c.args.b in
     c.combine.ensures ∙
-    same_expression c.at-copy.result _ c.wiring.result.sums _ c.wiring.result.products _ a b c.at-copy.ensures.value
+    same_expression c.at_copy.result _ c.wiring.result.sums _ c.wiring.result.products _ a b c.at_copy.ensures.value
     c.wiring.ensures.sums c.wiring.ensures.products ∙
     sym (expected_some numbers s.layers (size_under s) s.claim (point_c s) (point_x s) (point_y s) a b c.requires.some)

@@ -22,7 +22,7 @@ invariant-of-result-2 c =
     let numbered : 0 + length (layers_seen layers) ≤ 32 =
     omega (arith, ap length c.layers-layers.ensures.layers, layers_limit (words_seen c.args.circuit) c.args.circuit.lawful)
     in
-    (whole, (c.requires.inputs.1, (numbered, (zero-le, (zeros, (c.extension-at-total.ensures.below, tt))))))
+    (whole, (c.requires.inputs.1, (numbered, (zero-le, (zeros, (c.extension_at-total.ensures.below, tt))))))
 
 pub returns : goal.returns
 returns c =
@@ -31,7 +31,7 @@ returns c =
     let layers = c.layers-layers.result in
     let copies : c.copies-copies.result ≡ copies_above layers = c.copies-copies.ensures.value in
     let same : copies_above layers ≡ circuit.copies = c.layers-layers.ensures.copies in
-    let size : c.top-size-size.result ≡ size_below (layers_seen layers) (inputs_below layers) = c.top-size-size.ensures.value in
+    let size : c.top_size-size.result ≡ size_below (layers_seen layers) (inputs_below layers) = c.top_size-size.ensures.value in
     let sizes : size_below (layers_seen layers) (inputs_below layers) ≡ size_below circuit.layers circuit.inputs =
     ap₂ size_below c.layers-layers.ensures.layers c.layers-layers.ensures.inputs
     in
@@ -49,6 +49,6 @@ returns c =
     record {
       stand =
           same_start _ circuit.copies _ circuit.inputs _ circuit.layers _ (take circuit.copies z) _ (drop circuit.copies z) _ _ same
-          c.layers-layers.ensures.inputs c.layers-layers.ensures.layers cut_c cut_x c.extension-at-total.ensures.value;
+          c.layers-layers.ensures.inputs c.layers-layers.ensures.layers cut_c cut_x c.extension_at-total.ensures.value;
       inputs = refl;
     }

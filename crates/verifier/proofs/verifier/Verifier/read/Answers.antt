@@ -6,21 +6,21 @@ use Rattle.claims.specs.Meaning.{numbers}
 use Rattle.verifier.specs.Meaning.{stand_of}
 use Rattle.verifier.proofs.verifier.Verifier.read.Goals as goal
 
-pub returns-then-variable-due : goal.returns-then-variable-due
-returns-then-variable-due c =
+pub returns-then-variable_due : goal.returns-then-variable_due
+returns-then-variable_due c =
     let s = stand_of c.args.self.now in
-    let due : Due s = due_is s c.variable-due.result c.variable-due.ensures c.if-variable-due.true in
+    let due : Due s = due_is s c.variable_due.result c.variable_due.ensures c.if-variable_due.true in
     let same = fits_due numbers s c.args.said.now due in
-    MatchResult-weaker c.read-variable.result c.read-variable.ensures (λ a h. (h.0, same ∙ h.1)) (λ v h. (h.0, same ∙ h.1))
+    MatchResult-weaker c.read_variable.result c.read_variable.ensures (λ a h. (h.0, same ∙ h.1)) (λ v h. (h.0, same ∙ h.1))
 
-pub read-values-requires : goal.read-values-requires
-read-values-requires c =
+pub read_values-requires : goal.read_values-requires
+read_values-requires c =
     let s = stand_of c.args.self.now in
-    record { some = c.requires; done = done_is s c.variable-due.result c.variable-due.ensures c.if-variable-due.false }
+    record { some = c.requires; done = done_is s c.variable_due.result c.variable_due.ensures c.if-variable_due.false }
 
-pub returns-else-variable-due : goal.returns-else-variable-due
-returns-else-variable-due c =
+pub returns-else-variable_due : goal.returns-else-variable_due
+returns-else-variable_due c =
     let s = stand_of c.args.self.now in
-    let done : Done s = done_is s c.variable-due.result c.variable-due.ensures c.if-variable-due.false in
+    let done : Done s = done_is s c.variable_due.result c.variable_due.ensures c.if-variable_due.false in
     let same = fits_done numbers s c.args.said.now done in
-    MatchResult-weaker c.read-values.result c.read-values.ensures (λ a h. (h.0, same ∙ h.1)) (λ v h. (h.0, same ∙ h.1))
+    MatchResult-weaker c.read_values.result c.read_values.ensures (λ a h. (h.0, same ∙ h.1)) (λ v h. (h.0, same ∙ h.1))

@@ -21,11 +21,11 @@ limit v = (layers_parts v.layers.copies v.layers.inputs v.layers.count v.layers.
 pub view-first-requires : goal.view-first-requires
 view-first-requires c = omega (arith, limit c.args.self.now, c.inputs-size.ensures)
 
-pub view-second-second-requires : goal.view-second-second-requires
-view-second-second-requires c = omega (arith, limit c.args.self.now, c.inputs-size.ensures)
+pub view_second-second-requires : goal.view_second-second-requires
+view_second-second-requires c = omega (arith, limit c.args.self.now, c.inputs-size.ensures)
 
-pub sum-shares-sum-requires : goal.sum-shares-sum-requires
-sum-shares-sum-requires c =
+pub sum_shares-sum-requires : goal.sum_shares-sum-requires
+sum_shares-sum-requires c =
     let v = c.args.self.now in
     let room : length v.claim.copy ≡ 16 = search rules in
     let n : ℕ = c.copies-copies.result - 0 in
@@ -40,7 +40,7 @@ sum-shares-sum-requires c =
       length = (v.inputs_whole ∙ ap (λ (k : ℕ). 2 ^ k) bits_are, omega (arith, bits_are));
       reduced = (T_of_path _ v.inputs_reduced, part_reduced 0 n v.claim.copy v.claim.copy_reduced);
       first = subst (λ (k : ℕ). ShareFits modulus k c.view-first.result) (sym size) fit;
-      second = subst (λ (k : ℕ). SecondFits modulus k c.view-second-second.result) (sym size) c.view-second-second.ensures.fits;
+      second = subst (λ (k : ℕ). SecondFits modulus k c.view_second-second.result) (sym size) c.view_second-second.ensures.fits;
     }
 
 -- the sum that is worked out is the claim's
@@ -61,19 +61,19 @@ sum_is v n size sum first second none en es ef eo h =
 pub returns-then-sum-self : goal.returns-then-sum-self
 returns-then-sum-self c =
     let v = c.args.self.now in
-    let sum = c.sum-shares-sum.result in
+    let sum = c.sum_shares-sum.result in
     let copies : c.copies-copies.result - 0 ≡ (stand_of v).copies = omega (arith, c.copies-copies.ensures.value) in
     settled_so modulus (inputs_of v) (stand_of v) sum
-    (sum_is v _ _ sum c.view-first.result c.view-second-second.result c.requires copies c.inputs-size.ensures c.view-first.ensures.meant
-    c.view-second-second.ensures.meant c.sum-shares-sum.ensures)
+    (sum_is v _ _ sum c.view-first.result c.view_second-second.result c.requires copies c.inputs-size.ensures c.view-first.ensures.meant
+    c.view_second-second.ensures.meant c.sum_shares-sum.ensures)
     c.if-sum-self.true
 
 pub returns-else-sum-self : goal.returns-else-sum-self
 returns-else-sum-self c =
     let v = c.args.self.now in
-    let sum = c.sum-shares-sum.result in
+    let sum = c.sum_shares-sum.result in
     let copies : c.copies-copies.result - 0 ≡ (stand_of v).copies = omega (arith, c.copies-copies.ensures.value) in
     settled-not modulus (inputs_of v) (stand_of v) sum
-    (sum_is v _ _ sum c.view-first.result c.view-second-second.result c.requires copies c.inputs-size.ensures c.view-first.ensures.meant
-    c.view-second-second.ensures.meant c.sum-shares-sum.ensures)
+    (sum_is v _ _ sum c.view-first.result c.view_second-second.result c.requires copies c.inputs-size.ensures c.view-first.ensures.meant
+    c.view_second-second.ensures.meant c.sum_shares-sum.ensures)
     c.if-sum-self.false

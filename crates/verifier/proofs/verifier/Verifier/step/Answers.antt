@@ -13,8 +13,8 @@ use Rattle.verifier.specs.Answers.{numbers_seen, coin_answer, coin_word}
 use Rattle.verifier.specs.Meaning.{stand_of}
 use Rattle.verifier.proofs.verifier.Verifier.step.Goals as goal
 
-pub cubic-at-total-requires : goal.cubic-at-total-requires
-cubic-at-total-requires c =
+pub cubic_at-total-requires : goal.cubic_at-total-requires
+cubic_at-total-requires c =
     let values = c.in-Four.values in
     let four : length values ≡ 4 = search rules in
     let said : values ≡ coin_answer c.args.coin = sym (ap numbers_seen c.in-Four.is) ∙ c.spend-numbers.ensures.0 in
@@ -36,11 +36,11 @@ advanced-requires c =
     in
     record {
       due = (four_due numbers (stand_of c.args.self.now) values four fit).0;
-      reduced = (c.spend-numbers.ensures.2, c.cubic-at-total.ensures.below);
+      reduced = (c.spend-numbers.ensures.2, c.cubic_at-total.ensures.below);
     }
 
-pub claim-below-claim-requires : goal.claim-below-claim-requires
-claim-below-claim-requires c =
+pub claim_below-claim-requires : goal.claim_below-claim-requires
+claim_below-claim-requires c =
     let values = c.in-Two.values in
     let two : length values ≡ 2 = search rules in
     let said : values ≡ coin_answer c.args.coin = sym (ap numbers_seen c.in-Two.is) ∙ c.spend-numbers.ensures.0 in
@@ -61,8 +61,8 @@ returns-in-Four c =
     let said : values ≡ answer = sym (ap numbers_seen c.in-Four.is) ∙ c.spend-numbers.ensures.0 in
     let fit : fits numbers s values ≡ true = ap (fits numbers s) said ∙ c.requires.fits in
     let due = (four_due numbers s values four fit).0 in
-    let at-coin : c.cubic-at-total.result ≡ interpolate numbers values c.spend-numbers.result.1 = c.cubic-at-total.ensures.value in
-    let total : c.cubic-at-total.result ≡ interpolate numbers answer word =
+    let at-coin : c.cubic_at-total.result ≡ interpolate numbers values c.spend-numbers.result.1 = c.cubic_at-total.ensures.value in
+    let total : c.cubic_at-total.result ≡ interpolate numbers answer word =
     at-coin ∙ ap₂ (interpolate numbers) said c.spend-numbers.ensures.1
     in
     record {
@@ -83,7 +83,7 @@ returns-in-Two c =
     let fit : fits numbers s values ≡ true = ap (fits numbers s) said ∙ c.requires.fits in
     let done = (two_done numbers s values two fit).0 in
     let claims =
-    c.claim-below-claim.ensures ∙
+    c.claim_below-claim.ensures ∙
     ap₂ (λ (a : List ℕ) (r : ℕ). claim_below numbers (point_c s) (point_x s) (point_y s) (get_or a 0 0) (get_or a 1 0) r) said c.spend-numbers.ensures.1
     in
     record {

@@ -6,12 +6,12 @@ use Rattle.claims.specs.Meaning.{numbers}
 use Rattle.verifier.proofs.Reading.{ok_passes, formed, two_places}
 use Rattle.verifier.proofs.verifier.read.two.Goals as goal
 
-pub returns-then-is-ok : goal.returns-then-is-ok
-returns-then-is-ok c =
+pub returns-then-is_ok : goal.returns-then-is_ok
+returns-then-is_ok c =
     let said = c.args.said.now in
     let long : length said ≡ 2 = omega arith in
     let reduced : all_reduced numbers said ≡ true =
-    ok_passes (all_reduced numbers said) NotReduced c.check-reduced.result c.check-reduced.ensures
-    (sym c.is-ok.ensures.value ∙ c.if-is-ok.true)
+    ok_passes (all_reduced numbers said) NotReduced c.check_reduced.result c.check_reduced.ensures
+    (sym c.is_ok.ensures.value ∙ c.if-is_ok.true)
     in
     (sym (two_places said long), formed 2 said long reduced)
