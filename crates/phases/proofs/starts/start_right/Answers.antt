@@ -19,10 +19,10 @@ returns g c k X point shares tables =
     let m : ℕ = places_below layer in
     let parts = layer_parts (size_seen layer) m layer.words.now layer.lawful in
     let gates = c.places-gates.result in
-    let below = c.places_below.result in
+    let below = c.places-below.result in
     let size : ℕ = length c.args.first.point.now in
     let eg : gates ≡ 2 ^ size_seen layer = c.places-gates.ensures.value ∙ ap (λ (n : ℕ). 2 ^ n) c.size.ensures.value in
-    let eb : below ≡ 2 ^ m = c.places_below.ensures.value ∙ ap (λ (n : ℕ). 2 ^ n) c.size_below.ensures.value in
+    let eb : below ≡ 2 ^ m = c.places-below.ensures.value ∙ ap (λ (n : ℕ). 2 ^ n) c.size_below.ensures.value in
     right_read p several (layer_seen layer) m k X point (gates_read (2 ^ m) (gates_seen layer) parts.fits) gates below (gates - 0) (below - 0)
     eg eb (sub-zero gates) (sub-zero below) c.args.x.now c.args.v.now c.args.w.now c.args.h.now c.args.j.now
     c.copy_front.new.to c.gather_right_front.new.h c.gather_right_front.new.j c.weigh_front.new.words c.scale_front.new.words

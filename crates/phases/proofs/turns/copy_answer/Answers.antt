@@ -14,7 +14,7 @@ sum_copies-requires g c =
     let gates = c.places-gates.result in
     let count = c.places-count.result in
     let all = c.places-all.result in
-    let eb : c.places_below.result ≡ 2 ^ places_below layer = c.places_below.ensures.value ∙ ap (λ (n : ℕ). 2 ^ n) c.size_below.ensures.value in
+    let eb : c.places-below.result ≡ 2 ^ places_below layer = c.places-below.ensures.value ∙ ap (λ (n : ℕ). 2 ^ n) c.size_below.ensures.value in
     let eg : gates ≡ 2 ^ size_seen layer = c.places-gates.ensures.value ∙ ap (λ (n : ℕ). 2 ^ n) c.size.ensures.value in
     let ea : all ≡ 2 ^ c.args.left * 2 ^ places_below layer =
     c.places-all.ensures.value ∙ ap (λ (n : ℕ). 2 ^ (c.args.left + n)) c.size_below-2.ensures.value ∙ pow-add 2 c.args.left (places_below layer) in

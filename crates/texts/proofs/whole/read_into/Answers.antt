@@ -11,5 +11,5 @@ loop-number-preserved c =
     let number = c.in-Some.number in
     let read = at_number left left' c.in_ok-number.field-0 number c.in-Some.is c.in_ok-number.ensures in
     let put : c.loop-number.count < length c.args.room.now → c.if-count-room.room ≡ set c.loop-number.room c.loop-number.count number =
-    λ h. elim c.if-count-room.branch [ then-count-room w ↦ w.room_is | else-count-room w ↦ absurd (omega arith) ] in
+    λ h. elim c.if-count-room.branch [ then-count-room w ↦ w.room-is | else-count-room w ↦ absurd (omega arith) ] in
     filled_more c.args.text.now left c.args.room.now c.loop-number.room c.loop-number.count number left' c.if-count-room.room c.loop-number.invariant read.0 read.1 put

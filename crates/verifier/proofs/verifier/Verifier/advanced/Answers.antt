@@ -25,25 +25,32 @@ bounds-point-self c =
     let long : length c.args.self.now.point ≡ 32 = search rules in
     room c.args.self.now long c.requires.due
 
-pub offset-bounds-point-self : goal.offset-bounds-point-self
-offset-bounds-point-self c =
+pub offset_bounds-point-self : goal.offset_bounds-point-self
+offset_bounds-point-self c =
     let long : length c.args.self.now.point ≡ 32 = search rules in
     let small : c.args.self.now.drawn < 32 = room c.args.self.now long c.requires.due in
     search rules
 
-pub overflow-add-result : goal.overflow-add-result
-overflow-add-result c =
+pub overflow_add-result : goal.overflow_add-result
+overflow_add-result c =
     let long : length c.args.self.now.point ≡ 32 = search rules in
     let small : c.args.self.now.drawn < 32 = room c.args.self.now long c.requires.due in
     search rules
 
-pub invariant-of-result : goal.invariant-of-result
-invariant-of-result c =
+pub invariant_of-result : goal.invariant_of-result
+invariant_of-result c =
     let v = c.args.self.now in
     let long : length v.point ≡ 32 = search rules in
     let small : v.drawn < 32 = room v long c.requires.due in
     let more : v.drawn + 1 ≤ variables_of (stand_of v) = omega (arith, length-take v.drawn v.point, c.requires.due) in
-    (v.inputs_whole, (v.inputs_reduced, (v.numbered, (more, (reduced_set modulus v.point v.drawn c.args.coin c.requires.reduced.0 v.point_reduced, (c.requires.reduced.1, tt))))))
+    record {
+      inputs_whole = v.inputs_whole;
+      inputs_reduced = v.inputs_reduced;
+      numbered = v.numbered;
+      within = more;
+      point_reduced = reduced_set modulus v.point v.drawn c.args.coin c.requires.reduced.0 v.point_reduced;
+      total_reduced = c.requires.reduced.1;
+    }
 
 pub returns : goal.returns
 returns c =

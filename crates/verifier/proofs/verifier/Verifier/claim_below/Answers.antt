@@ -17,14 +17,14 @@ returns c =
     let cut_c : take s.copies c.cut-copy.result ≡ point_c s =
     cut_is c.copies-copies.result s.copies 0 0 c.cut-copy.result v.point front copies (omega arith) ∙ sym (part_c v long c.requires.some c.requires.done)
     in
-    let cut_x : take (size_under s) c.cut-x.result ≡ point_x s =
+    let cut-x : take (size_under s) c.cut-x.result ≡ point_x s =
     cut_is _ (size_under s) _ s.copies c.cut-x.result v.point c.cut-x.ensures.part below copies ∙ sym (part_x v long c.requires.some c.requires.done)
     in
-    let cut_y : take (size_under s) c.cut-y.result ≡ point_y s =
+    let cut-y : take (size_under s) c.cut-y.result ≡ point_y s =
     cut_is _ (size_under s) _ (s.copies + size_under s) c.cut-y.result v.point c.cut-y.ensures.part below (ap₂ ◌+◌ copies below) ∙
     sym (part_y v long c.requires.some c.requires.done)
     in
     let total : c.add.result ≡ (get_or c.args.values 0 0 + (c.args.coin * get_or c.args.values 1 0) % modulus) % modulus =
     c.add.ensures.value ∙ ap (λ (x : ℕ). (get_or c.args.values 0 0 + x) % modulus) c.mul.ensures.value
     in
-    same_shares _ (point_c s) _ (point_x s) _ (point_y s) c.args.coin _ _ cut_c cut_x cut_y total
+    same_shares _ (point_c s) _ (point_x s) _ (point_y s) c.args.coin _ _ cut_c cut-x cut-y total

@@ -9,8 +9,8 @@ zeros : all_reduced (modulo modulus) (replicate 32 0) ≡ true
 unfolding all_reduced
 zeros = refl
 
-pub invariant-of-result : goal.invariant-of-result
-invariant-of-result c =
+pub invariant_of-result : goal.invariant_of-result
+invariant_of-result c =
     let v = c.args.self.now in
     let whole : length v.inputs.now ≡ 2 ^ (copies_above c.rest.result + inputs_below c.rest.result) =
     v.inputs_whole ∙ ap₂ (λ (a b : ℕ). 2 ^ (a + b)) (sym c.rest.ensures.copies) (sym c.rest.ensures.inputs)
@@ -19,4 +19,11 @@ invariant-of-result c =
     ap length c.rest.ensures.layers ∙ length-drop 1 (layers_seen v.layers)
     in
     let numbered : v.layer + 1 + length (layers_seen c.rest.result) ≤ 32 = omega (arith, v.numbered, c.requires, fewer) in
-    (whole, (v.inputs_reduced, (numbered, (zero-le, (zeros, (c.args.claim.total_reduced, tt))))))
+    record {
+      inputs_whole = whole;
+      inputs_reduced = v.inputs_reduced;
+      numbered = numbered;
+      within = zero-le;
+      point_reduced = zeros;
+      total_reduced = c.args.claim.total_reduced;
+    }

@@ -13,8 +13,8 @@ zeros : all_reduced (modulo modulus) (replicate 32 0) ≡ true
 unfolding all_reduced
 zeros = refl
 
-pub invariant-of-result-2 : goal.invariant-of-result-2
-invariant-of-result-2 c =
+pub invariant_of-result-2 : goal.invariant_of-result-2
+invariant_of-result-2 c =
     let layers = c.layers-layers.result in
     let whole : length c.args.inputs.now ≡ 2 ^ (copies_above layers + inputs_below layers) =
     c.requires.inputs.0 ∙ ap₂ (λ (a b : ℕ). 2 ^ (a + b)) (sym c.layers-layers.ensures.copies) (sym c.layers-layers.ensures.inputs)
@@ -22,7 +22,14 @@ invariant-of-result-2 c =
     let numbered : 0 + length (layers_seen layers) ≤ 32 =
     omega (arith, ap length c.layers-layers.ensures.layers, layers_limit (words_seen c.args.circuit) c.args.circuit.lawful)
     in
-    (whole, (c.requires.inputs.1, (numbered, (zero-le, (zeros, (c.extension_at-total.ensures.below, tt))))))
+    record {
+      inputs_whole = whole;
+      inputs_reduced = c.requires.inputs.1;
+      numbered = numbered;
+      within = zero-le;
+      point_reduced = zeros;
+      total_reduced = c.extension_at-total.ensures.below;
+    }
 
 pub returns : goal.returns
 returns c =
