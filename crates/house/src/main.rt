@@ -102,7 +102,7 @@ fn argue<'a>(
     requires coins { length coins.old ≡ first_coins (circuit_of circuit.now) }
     requires rooms { (Rooms v.old w.old h.old) × (length j.old ≡ 65536) }
 {
-    let mut judge = LinesIn::new(rt);
+    let mut judge = LinesIn::new(rt)?;
     hear_first(rt, &mut judge, coins)?;
     check_reduced::<Mersenne31>(coins)?;
     let prover = open_prover(circuit, inputs, coins, v, w, h, j);

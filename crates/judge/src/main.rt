@@ -124,7 +124,7 @@ fn argue<'a>(
     draw_first(rt, dice, coins)?;
     check_reduced::<Mersenne31>(coins)?;
     let mut verifier = open_verifier(circuit, inputs, claimed, coins);
-    let mut house = LinesIn::new(rt);
+    let mut house = LinesIn::new(rt)?;
     let verdict = talk(rt, &mut verifier, dice, &mut house)?;
     conclude(rt, verdict, dice, &mut house)
 }

@@ -1,6 +1,8 @@
 -- What a program's failures are: refusals by their numbers, or something of the system's that is no refusal.
 -- The functions that reach outside are held to these where no contract can say what they read.
 use Rattle.std.specs.Prelude.{◌≡◌, ℕ}
+use Rattle.std.specs.IoError.{error_kind}
+use Rattle.std.specs.declared.io.ErrorKind.TheVariants.{OutOfMemory}
 use Rattle.texts.specs.declared.error.TextError.{TextError}
 use Rattle.texts.specs.declared.error.TextError.TheVariants.{NoNumber, TooMany, NoMemory}
 use Rattle.streams.specs.declared.failure.Failure.{Failure}
@@ -12,6 +14,13 @@ IsSystem Usage = ⊥
 IsSystem (Refused n) = ⊥
 IsSystem NotBelieved = ⊥
 IsSystem (System e) = Unit {0}
+
+-- wanting memory
+abbrev pub IsNoMemory : Failure → Type 0
+IsNoMemory Usage = ⊥
+IsNoMemory (Refused n) = ⊥
+IsNoMemory NotBelieved = ⊥
+IsNoMemory (System e) = error_kind e ≡ OutOfMemory
 
 -- a refusal by this number, or something of the system's
 abbrev pub RefusedBy : ℕ → Failure → Type 0

@@ -1,7 +1,7 @@
 // Lines that come from the other program, one by one.
 // A line keeps its end: it reads as the same numbers with it.
 ghost use Rattle.std.specs.Prelude.{IfErr};
-ghost use Rattle.streams.specs.Failures.{IsSystem};
+ghost use Rattle.streams.specs.Failures.{IsSystem, IsNoMemory};
 
 use crate::failure::Failure;
 use std::alloc::Global;
@@ -14,10 +14,12 @@ pub struct LinesIn {
 }
 
 impl LinesIn {
-    pub fn new(rt: &HostRuntime) -> LinesIn {
-        LinesIn {
-            input: BufReader::new(rt.stdin()),
-        }
+    // The lines of standard input. Where there is no memory for its buffer, nothing has been read.
+    pub fn new(rt: &HostRuntime) -> Result<LinesIn, Failure>
+        ensures { IfErr result IsNoMemory }
+    {
+        let input = BufReader::new(rt.alloc(), rt.stdin())?;
+        Ok(LinesIn { input })
     }
 
     // The next line; none where there are no more.

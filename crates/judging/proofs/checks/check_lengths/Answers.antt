@@ -8,7 +8,7 @@ pub measure-layers-requires : goal.measure-layers-requires
 measure-layers-requires c =
     omega (arith, ap length c.layers.ensures.layers, layers_limit (words_seen c.args.circuit) c.args.circuit.lawful)
 
-pub overflow-add-first_coins : goal.overflow-add-first_coins
-overflow-add-first_coins c =
+pub overflow_add-first_coins : goal.overflow_add-first_coins
+overflow_add-first_coins c =
     let small : c.first_coins.result + c.measure-layers.result.coins ≤ 2000 = omega (arith, c.first_coins.ensures.limit, c.measure-layers.ensures.limit) in
     search rules

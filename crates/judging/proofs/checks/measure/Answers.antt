@@ -6,15 +6,15 @@ use Rattle.judging.proofs.Measuring.{words_seen, coins_seen, measuring_more}
 use Rattle.judging.proofs.Walking.{words_none, coins_none}
 use Rattle.judging.proofs.checks.measure.Goals as goal
 
-pub overflow-add-words-in-loop-rest : goal.overflow-add-words-in-loop-rest
-overflow-add-words-in-loop-rest c =
+pub overflow_add-words-in-loop-rest : goal.overflow_add-words-in-loop-rest
+overflow_add-words-in-loop-rest c =
     let small : c.loop-rest.words + (4 * (c.copies.result + 2 * c.top_size.result) + 2) ≤ 100000 =
     omega (arith, c.requires, c.loop-rest.invariant.words_limit, c.copies.ensures.limit, c.top_size.ensures.limit)
     in
     search rules
 
-pub overflow-add-coins-in-loop-rest : goal.overflow-add-coins-in-loop-rest
-overflow-add-coins-in-loop-rest c =
+pub overflow_add-coins-in-loop-rest : goal.overflow_add-coins-in-loop-rest
+overflow_add-coins-in-loop-rest c =
     let small : c.loop-rest.coins + (c.copies.result + 2 * c.top_size.result + 1) ≤ 100000 =
     omega (arith, c.requires, c.loop-rest.invariant.coins_limit, c.copies.ensures.limit, c.top_size.ensures.limit)
     in
@@ -23,12 +23,12 @@ overflow-add-coins-in-loop-rest c =
 pub loop-rest-preserved : goal.loop-rest-preserved
 loop-rest-preserved c =
     let n : ℕ = c.copies.result + 2 * c.top_size.result in
-    let below = c.rest_below.result in
+    let below = c.rest-below.result in
     let some : 0 < length (layers_seen c.loop-rest.rest) = omega (arith, c.count.ensures, c.loop-rest-test.true) in
     let en : n ≡ copies_above below + 2 * size_below (layers_seen below) (inputs_below below) =
     omega (arith, c.copies.ensures.value, c.top_size.ensures.value)
     in
-    measuring_more c.loop-rest.invariant below n some c.rest_below.ensures.layers c.rest_below.ensures.copies c.rest_below.ensures.inputs en
+    measuring_more c.loop-rest.invariant below n some c.rest-below.ensures.layers c.rest-below.ensures.copies c.rest-below.ensures.inputs en
     (omega (arith, c.copies.ensures.value, c.top_size.ensures.limit))
 
 pub returns : goal.returns

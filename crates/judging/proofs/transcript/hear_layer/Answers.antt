@@ -27,7 +27,7 @@ hear_variables-requires c =
 
 pub returns-in_err-hear_variables : goal.returns-in_err-hear_variables
 returns-in_err-hear_variables c =
-    let p = err_from_is_err_and c.from-residual.result c.from-residual.ensures.1 in
+    let p = err_from_is_err_and c.from_residual.result c.from_residual.ensures.1 in
     let history = c.in_err-hear_variables.ensures in
     let v = c.args.verifier.now in
     let n = c.variables-variables.result in

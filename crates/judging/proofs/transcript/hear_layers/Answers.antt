@@ -17,8 +17,8 @@ words_cut from n v ws e = ap (λ (k : ℕ). take k (drop from ws)) (let l : from
 coins_cut : (from n v : ℕ) (ws : List ℕ) → n ≡ v → take (from + n + 1 - from) (drop from ws) ≡ take (v + 1) (drop from ws)
 coins_cut from n v ws e = ap (λ (k : ℕ). take k (drop from ws)) (let l : from + n + 1 - from ≡ v + 1 = omega arith in l)
 
-pub slice-bounds-hear_layer-end : goal.slice-bounds-hear_layer-end
-slice-bounds-hear_layer-end c =
+pub slice_bounds-hear_layer-end : goal.slice_bounds-hear_layer-end
+slice_bounds-hear_layer-end c =
     let t = stand_of c.loop-verifier.verifier in
     let some = layers_left t.layers c.at_inputs.result c.at_inputs.ensures c.loop-verifier-test.true in
     let room = walking_room c.loop-verifier.invariant.0 some in
@@ -27,8 +27,8 @@ slice-bounds-hear_layer-end c =
     in
     search rules
 
-pub slice-bounds-hear_layer-end-in-loop-verifier : goal.slice-bounds-hear_layer-end-in-loop-verifier
-slice-bounds-hear_layer-end-in-loop-verifier c =
+pub slice_bounds-hear_layer-end-in-loop-verifier : goal.slice_bounds-hear_layer-end-in-loop-verifier
+slice_bounds-hear_layer-end-in-loop-verifier c =
     let t = stand_of c.loop-verifier.verifier in
     let some = layers_left t.layers c.at_inputs.result c.at_inputs.ensures c.loop-verifier-test.true in
     let room = walking_room c.loop-verifier.invariant.0 some in
@@ -60,7 +60,7 @@ hear_layer-requires c =
 
 pub returns-in_err-hear_layer : goal.returns-in_err-hear_layer
 returns-in_err-hear_layer c =
-    let p = err_from_is_err_and c.from-residual.result c.from-residual.ensures.1 in
+    let p = err_from_is_err_and c.from_residual.result c.from_residual.ensures.1 in
     let history = c.in_err-hear_layer.ensures in
     let t = stand_of c.loop-verifier.verifier in
     let some = layers_left t.layers c.at_inputs.result c.at_inputs.ensures c.loop-verifier-test.true in

@@ -25,7 +25,7 @@ hear-requires c =
 
 pub returns-in_err-hear : goal.returns-in_err-hear
 returns-in_err-hear c =
-    let p = err_from_is_err_and c.from-residual.result c.from-residual.ensures.1 in
+    let p = err_from_is_err_and c.from_residual.result c.from_residual.ensures.1 in
     let i = c.loop-i.i in
     let history = c.in_err-hear.ensures in
     record {

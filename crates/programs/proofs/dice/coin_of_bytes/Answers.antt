@@ -5,8 +5,8 @@ use Rattle.programs.proofs.dice.coin_of_bytes.Goals as goal
 
 pub returns-then-coin-eq-MODULUS : goal.returns-then-coin-eq-MODULUS
 returns-then-coin-eq-MODULUS c =
-    no_coin _ _ _ _ _ (masked_low_bits _ _ _ _ c.element-fits.ranges c.element-fits2.ranges c.element-fits3.ranges c.element-fits4.ranges) c.if-coin-eq-MODULUS.true
+    no_coin _ _ _ _ _ (masked_low_bits _ _ _ _ c.element_fits.fits c.element_fits2.fits c.element_fits3.fits c.element_fits4.fits) c.if-coin-eq-MODULUS.true
 
 pub returns-else-coin-eq-MODULUS : goal.returns-else-coin-eq-MODULUS
 returns-else-coin-eq-MODULUS c =
-    one_coin _ _ _ _ _ (masked_low_bits _ _ _ _ c.element-fits.ranges c.element-fits2.ranges c.element-fits3.ranges c.element-fits4.ranges) c.if-coin-eq-MODULUS.false
+    one_coin _ _ _ _ _ (masked_low_bits _ _ _ _ c.element_fits.fits c.element_fits2.fits c.element_fits3.fits c.element_fits4.fits) c.if-coin-eq-MODULUS.false

@@ -6,7 +6,7 @@ use Rattle.arithmetic.proofs.Truth.{T_of_path}
 use Rattle.argument.specs.Claims.{Share}
 use Rattle.circuits.specs.Words.{modulus}
 use Rattle.tables.proofs.ReducedLists.{reduced_take}
-use Rattle.rounds.proofs.FrontSteps.{front_length}
+use Rattle.fronts.proofs.FrontSteps.{front_length}
 use Rattle.prover.proofs.shares.view_share.Goals as goal
 
 pub returns : goal.returns
