@@ -4,6 +4,7 @@ use circuits::Refusal;
 use programs::dice::coin_of_bytes;
 use programs::number::one_number;
 use std::io::Read;
+use std::process::ExitCode;
 use std::{env, io};
 use streams::failure;
 use streams::failure::{Failure, refused};
@@ -46,6 +47,10 @@ fn work(rt: &HostRuntime) -> Result<(), Failure> {
     roll(rt, one_number(count.as_str().as_bytes())?)
 }
 
-fn main(rt: HostRuntime) -> Result<(), Failure> {
-    failure::ended(&rt, USAGE, work(&rt))
+// What a failure has to say is said by then: it is not printed again.
+fn main(rt: HostRuntime) -> ExitCode {
+    match failure::ended(&rt, USAGE, work(&rt)) {
+        Ok(()) => ExitCode::SUCCESS,
+        Err(_) => ExitCode::FAILURE,
+    }
 }

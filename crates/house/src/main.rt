@@ -18,6 +18,7 @@ use prover::hearing::hear;
 use prover::prover::HonestProver;
 use prover::saying::say;
 use std::env;
+use std::process::ExitCode;
 use streams::failure;
 use streams::failure::{Failure, refused};
 use streams::files::read_file;
@@ -144,6 +145,10 @@ fn work(rt: &HostRuntime) -> Result<(), Failure> {
     house(rt, circuit.as_slice(), inputs.as_slice())
 }
 
-fn main(rt: HostRuntime) -> Result<(), Failure> {
-    failure::ended(&rt, USAGE, work(&rt))
+// What a failure has to say is said by then: it is not printed again.
+fn main(rt: HostRuntime) -> ExitCode {
+    match failure::ended(&rt, USAGE, work(&rt)) {
+        Ok(()) => ExitCode::SUCCESS,
+        Err(_) => ExitCode::FAILURE,
+    }
 }

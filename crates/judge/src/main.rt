@@ -12,6 +12,7 @@ use programs::hearing::hear;
 use programs::held::{check_held, first_coins, open_verifier};
 use programs::verdict::VerdictLine;
 use std::env;
+use std::process::ExitCode;
 use streams::failure;
 use streams::failure::Failure;
 use streams::files::read_file;
@@ -167,6 +168,10 @@ fn work(rt: &HostRuntime) -> Result<(), Failure> {
     )
 }
 
-fn main(rt: HostRuntime) -> Result<(), Failure> {
-    failure::ended(&rt, USAGE, work(&rt))
+// What a failure has to say is said by then: it is not printed again.
+fn main(rt: HostRuntime) -> ExitCode {
+    match failure::ended(&rt, USAGE, work(&rt)) {
+        Ok(()) => ExitCode::SUCCESS,
+        Err(_) => ExitCode::FAILURE,
+    }
 }

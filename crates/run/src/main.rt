@@ -2,6 +2,7 @@
 // A refusal prints `no` and its number and ends with status 1.
 use programs::room::outputs_len;
 use std::env;
+use std::process::ExitCode;
 use streams::failure;
 use streams::failure::Failure;
 use streams::files::read_file;
@@ -36,6 +37,10 @@ fn work(rt: &HostRuntime) -> Result<(), Failure> {
     print_outputs(rt, circuit.as_slice(), inputs.as_slice())
 }
 
-fn main(rt: HostRuntime) -> Result<(), Failure> {
-    failure::ended(&rt, USAGE, work(&rt))
+// What a failure has to say is said by then: it is not printed again.
+fn main(rt: HostRuntime) -> ExitCode {
+    match failure::ended(&rt, USAGE, work(&rt)) {
+        Ok(()) => ExitCode::SUCCESS,
+        Err(_) => ExitCode::FAILURE,
+    }
 }
