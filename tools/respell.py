@@ -2,6 +2,7 @@
 """Brings the repository's own definitions and lemmas in antt to today's spelling. Run at the top of the checkout.
 
 A word is in snake case; a dash in a lemma's name stays only between two names of functions, or after a fact.
+In a generic function's clauses the number that its bound `M: Modular` gives is `M.modulus`.
 Renamed is what specs/*.antt and proofs/**/*.antt declare, and nothing that Rattle or its libraries make.
 `--list` prints what becomes what, `--check` also what looks doubtful; neither changes a file.
 """
@@ -422,7 +423,27 @@ def main():
         if open(f, encoding='utf-8').read() != new:
             open(f, 'w', encoding='utf-8').write(new)
             count += 1
-    print('respelled %d names in %d files' % (len(w.new), count))
+    print('respelled %d names in %d files, and the modulus in %d' % (len(w.new), count, name_modulus()))
+
+
+def name_modulus():
+    """Writes `modulus` as a member of the bound in the clauses of functions that are generic over `M: Modular`."""
+    count = 0
+    for path in rt_files():
+        with open(path, encoding='utf-8') as f:
+            text = f.read()
+        generic, lines = False, []
+        for line in text.split('\n'):
+            if re.match(r'\s*(pub(\(\w+\))? )?(extern "C" )?fn ', line):
+                generic = 'M: Modular' in line
+            if generic and re.match(r'\s*(requires|ensures)\b', line):
+                line = re.sub(r"(?<![\w.'-])modulus(?![\w'-])", 'M.modulus', line)
+            lines.append(line)
+        if '\n'.join(lines) != text:
+            with open(path, 'w', encoding='utf-8') as f:
+                f.write('\n'.join(lines))
+            count += 1
+    return count
 
 
 def check(w, changes):

@@ -1,6 +1,6 @@
 -- The instances of the main promise, by computing.
 -- With five rows or thirty-one all of them are tried.
-use Rattle.std.proofs.Common.{◌≡◌, ℕ, List, [], ◌∷◌, get_or, refl, arith}
+use Rattle.std.proofs.Common.{◌≡◌, ℕ, List, get_or, refl, arith}
 use Rattle.arithmetic.specs.Numbers.{all_reduced}
 use Rattle.arithmetic.specs.Counting.{sum_below, sum_rows}
 use Rattle.arithmetic.proofs.WholeMersenne.{whole_examples}

@@ -4,7 +4,7 @@ use Rattle.std.specs.Prelude.{ℕ, ◌+◌, ◌*◌, Bool, false, ◌&&◌, List
 use Rattle.arithmetic.specs.Numbers.{Numbers}
 use Rattle.tables.specs.Multilinear.{mle}
 use Rattle.circuits.specs.Circuit.{Layer, Circuit, size_below, output_size}
-use Rattle.argument.specs.Claims.{Share, Claim, share_sum, expected}
+use Rattle.argument.specs.Claims.{Claim, share_sum, expected}
 use Rattle.argument.specs.Sumcheck.{Prover, after, well_formed, nth, rounds}
 
 module _ {K : Type 0} (N : Numbers K) where

@@ -1,6 +1,6 @@
 -- The sumcheck, variable by variable: the verifier's side, and the answers of an honest prover.
 -- A prover is any function from the coins drawn so far to an answer; after a coin r it is the function of what follows r.
-use Rattle.std.specs.Prelude.{ℕ, zero, suc, Bool, true, false, ◌&&◌, List, [], ◌∷◌, length, ◌==◌, slice_index_or}
+use Rattle.std.specs.Prelude.{ℕ, zero, suc, Bool, false, ◌&&◌, List, [], ◌∷◌, length, ◌==◌, slice_index_or}
 use Rattle.arithmetic.specs.Numbers.{Numbers, all_reduced}
 use Rattle.arithmetic.specs.Cubic.{interpolate}
 use Rattle.tables.specs.Multilinear.{sum_corners}

@@ -1,6 +1,6 @@
 -- Answers and coins as words that lie side by side, and what judging and proving answer, for p = 2^31 - 1.
 -- For each layer an answer of four words for each variable, and then one of two; a coin after each answer.
-use Rattle.std.specs.Prelude.{ℕ, zero, suc, ◌+◌, ◌-◌, ◌*◌, ◌^◌, Bool, cond, not, ◌&&◌, List, [], ◌∷◌, ◌++◌, length, take, drop, ◌==◌, slice_index_or}
+use Rattle.std.specs.Prelude.{ℕ, zero, suc, ◌+◌, ◌-◌, ◌*◌, ◌^◌, cond, not, ◌&&◌, List, [], ◌∷◌, ◌++◌, length, take, drop, ◌==◌, slice_index_or}
 use Rattle.arithmetic.specs.Numbers.{modulo, all_reduced}
 use Rattle.circuits.specs.Circuit.{Layer, Circuit, size_below, output_size}
 use Rattle.circuits.specs.Words.{modulus, circuit_of, is_circuit}

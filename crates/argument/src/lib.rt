@@ -1,4 +1,6 @@
 // The argument has no code of its own. Its functions carry what is proved of it, as what they ensure.
+#![tactic(auto)]
+
 ghost use Rattle.argument.specs.Promise.{Main};
 ghost use Rattle.argument.specs.Examples.{Examples};
 ghost use Rattle.argument.specs.Instances.{Instances};

@@ -1,10 +1,10 @@
 -- 2^31 - 1 is whole: it has no divisor but 1 and itself, which trying all numbers up to its square root shows.
 -- A product that it divides has a factor that it divides, by division with rest again and again.
-use Rattle.std.proofs.Common.{◌≡◌, ℕ, zero, suc, ◌+◌, ◌-◌, ◌*◌, ◌/◌, ◌%◌, ◌^◌, ◌<◌, ◌≤◌, Bool, true, false, not, ◌&&◌, eqb, ◌⊎◌, List, [], ◌∷◌, sym, refl, ap, ◌∙◌, subst, inl, inr, mod-lt, mod-eq_of_lt, mul_comm, mul-le-mul, one-mul, div-add-mod', arith}
+use Rattle.std.proofs.Common.{◌≡◌, ℕ, zero, suc, ◌+◌, ◌*◌, ◌/◌, ◌%◌, ◌^◌, ◌<◌, ◌≤◌, Bool, true, false, not, ◌&&◌, eqb, ◌⊎◌, [], ◌∷◌, sym, refl, ap, ◌∙◌, inl, inr, mod-lt, mod-eq_of_lt, mul_comm, mul-le-mul, one-mul, div-add-mod', arith}
 use native.Mathlib.Nat.{mod_self, mul-mod_left, two-pow-succ}
 use native.Mathlib.Decide.{dec_lt}
 use Rattle.std.proofs.lemmas.Bool.{and_parts, eq-eqb}
-use Rattle.arithmetic.specs.Numbers.{modulo, Whole}
+use Rattle.arithmetic.specs.Numbers.{Whole}
 use Rattle.arithmetic.proofs.Modulo.{ring_modulo}
 use Rattle.arithmetic.proofs.Solver.{var, con, ◌:+◌, ◌:*◌, ◌:-◌, solve_by, given}
 use Rattle.arithmetic.specs.Theorems.{WholeMersenne31, WholeExamples}

@@ -1,5 +1,7 @@
 // The calls as C functions, for programs in other languages.
 // A slice is passed as a pointer and a length.
+#![tactic(auto)]
+
 ghost use Rattle.std.specs.Prelude.{◌≡◌, length, replicate};
 ghost use Rattle.argument.specs.Transcript.{judged, prove_verdict, spoken};
 ghost use Rattle.argument.specs.Honest.{honest};

@@ -1,5 +1,7 @@
 // Layered circuits in words: a checked view of them, and checks of what goes with them.
 // What a circuit and its words mean is defined in specs/Circuit.antt and specs/Words.antt.
+#![tactic(auto)]
+
 mod checks;
 mod examples;
 mod gate;

@@ -1,5 +1,7 @@
 // A table of circuits at the edges of what is lawful: for each, what `run` answers and what the room holds then.
 // The file stdout has the table as it must be; a room starts with 7 at each place.
+#![tactic(auto)]
+
 mod cases;
 
 use cases::{CASES, Case};

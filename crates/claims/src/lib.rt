@@ -1,5 +1,7 @@
 // Claims about a layer and their shares, as they lie in memory, and the sums over them.
 // What a claim means is in specs/Meaning.antt, and in specs/Shares.antt what the sums see of one.
+#![tactic(auto)]
+
 pub mod claim;
 pub mod cut;
 pub mod extension;

@@ -1,5 +1,7 @@
 // dice N: prints N coins, one a line, made from the bytes of standard input.
 // If the bytes end first, it has printed the coins so far and prints `no 2`.
+#![tactic(auto)]
+
 use circuits::Refusal;
 use programs::dice::coin_of_bytes;
 use programs::number::one_number;

@@ -1,6 +1,6 @@
 -- The weights of a layer's gates as a list, from what stands at each of its places.
 -- And facts about a front, carried from what a call left to the whole.
-use Rattle.std.proofs.Common.{◌≡◌, ℕ, zero, suc, ◌+◌, ◌-◌, ◌<◌, T, ltb, List, ◌++◌, length, get_or, take, replicate, sym, refl, ap, ◌∙◌, subst, le_of_suc-le-suc, not-suc-le-zero, add-zero, zero-add, arith, lt→ltb}
+use Rattle.std.proofs.Common.{◌≡◌, ℕ, zero, suc, ◌+◌, ◌<◌, T, ltb, List, ◌++◌, length, get_or, take, replicate, sym, refl, ap, ◌∙◌, subst, le_of_suc-le-suc, not-suc-le-zero, add-zero, zero-add, arith, lt→ltb}
 use Rattle.std.proofs.lemmas.List.{ext_get_or, take_at}
 use Rattle.arithmetic.specs.Numbers.{Numbers, modulo, all_reduced}
 use Rattle.arithmetic.proofs.Truth.{and_both}

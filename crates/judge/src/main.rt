@@ -1,5 +1,7 @@
 // judge CIRCUIT INPUTS OUTPUTS DICE: the verifier. It draws coins out of DICE, prints each, and reads the house's answers.
 // In the end it prints `believed`, or where it stopped believing; the status is 0 only where it believes.
+#![tactic(auto)]
+
 ghost use Rattle.std.specs.Prelude.{◌≡◌, ◌<◌, length};
 ghost use Rattle.argument.specs.Argument.{first_coins};
 ghost use Rattle.circuits.specs.Words.{circuit_of};

@@ -1,5 +1,7 @@
 // A table of transcripts: for each, what the call answers and where the verifier stops believing.
 // The file stdout has the table as it must be.
+#![tactic(auto)]
+
 mod refusals;
 mod table;
 

@@ -1,6 +1,6 @@
 -- The copies' variables: the sum over x and y of the layer's expression is E(c) times a sum over the gates.
 -- Each gate's eq polynomials pick out its two values, so that no pair of places is ever looked at.
-use Rattle.std.proofs.Common.{◌≡◌, ℕ, ◌+◌, List, [], ◌∷◌, ◌++◌, length, sym, refl, ap, ◌∙◌, ap₂}
+use Rattle.std.proofs.Common.{◌≡◌, ℕ, List, [], ◌∷◌, ◌++◌, length, sym, refl, ap, ◌∙◌, ap₂}
 use Rattle.arithmetic.specs.Numbers.{Numbers}
 use Rattle.arithmetic.proofs.Ring.{Ring, zero-mul, reduce-add, reduce-mul}
 use Rattle.tables.specs.Multilinear.{mle, eq_poly, bits_of}

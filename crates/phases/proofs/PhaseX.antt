@@ -1,6 +1,6 @@
 -- The variables of x: the sum over y of the layer's expression is V(x) H(x) + J(x), by two tables gathered over the gates.
 -- Each gate adds at its left place; its eq polynomial of y picks the value at its right place.
-use Rattle.std.proofs.Common.{◌≡◌, ℕ, ◌+◌, ◌^◌, ◌<◌, List, [], ◌∷◌, length, get_or, replicate, sym, refl, ap, ◌∙◌, ap₂, length-set}
+use Rattle.std.proofs.Common.{◌≡◌, ℕ, ◌^◌, ◌<◌, List, [], ◌∷◌, length, get_or, replicate, sym, refl, ap, ◌∙◌, ap₂, length-set}
 use lib.ListN.{length-replicate}
 use Rattle.arithmetic.specs.Numbers.{Numbers}
 use Rattle.arithmetic.proofs.Ring.{Ring, zero-mul, reduce-add}

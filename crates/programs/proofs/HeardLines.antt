@@ -1,6 +1,6 @@
 -- What the verifier reads in a line is what the talk goes on with: an answer that fits, or where it stopped believing.
 -- A line with more numbers than the longest answer fits nowhere.
-use Rattle.std.proofs.Common.{◌≡◌, ℕ, ◌-◌, ◌<◌, Bool, true, false, cond, List, [], ◌∷◌, ◌++◌, length, take, IfOk, Some, None, Ok, Err, Option, Result, sym, refl, ap, ◌∙◌, arith, ne_eqb, MatchResult}
+use Rattle.std.proofs.Common.{◌≡◌, ℕ, ◌-◌, ◌<◌, Bool, true, false, cond, List, [], ◌∷◌, ◌++◌, length, take, IfOk, Some, Ok, Err, Option, Result, sym, refl, ap, ◌∙◌, arith, ne_eqb, MatchResult}
 use lib.Seq.{take-append_seam}
 use Rattle.arithmetic.specs.Numbers.{modulo}
 use Rattle.circuits.specs.Words.{modulus}

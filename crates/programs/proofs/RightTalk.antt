@@ -1,7 +1,7 @@
 -- With the honest answers for lines, the judge prints the coins and `believed` for right outputs.
 -- The argument is accepted, so each answer fits where the verifier stands; and what fits is read as it was written.
 use Rattle.std.proofs.Common.{◌≡◌, ℕ, zero, suc, ◌+◌, ◌-◌, ◌^◌, ◌<◌, ◌≤◌, Bool, true, false, cond, ◌&&◌, eqb, ltb, List, [], ◌∷◌, ◌++◌, map, length, get_or, take, drop, Some, Option, sym, refl, ap, ◌∙◌, add-zero, arith, lit<, take-append-drop}
-use Rattle.std.specs.List.{AllByRecursion as All}
+use Rattle.std.specs.List.{AllByRecursion}
 use Rattle.std.proofs.lemmas.List.{append-nil, append_assoc, map-append, length-drop, length-take-le}
 use Rattle.std.proofs.lemmas.Bool.{and_parts, cond-true, cond-false, ltb-true, false≢true}
 use Rattle.arithmetic.proofs.WholeMersenne.{whole31}
@@ -27,7 +27,7 @@ use Rattle.programs.specs.Theorems.{answers_in_turn, honest_answers, RightOutput
 use Rattle.programs.proofs.CoinsLeft.{CoinsLeft, none_left, some_left, next_left, start_left}
 
 -- ---- what fits is read as it was written
-pub reduced_words : (ns : List ℕ) → all_reduced N ns ≡ true → All (λ n. n < 2 ^ 32) ns
+pub reduced_words : (ns : List ℕ) → all_reduced N ns ≡ true → AllByRecursion (λ n. n < 2 ^ 32) ns
 unfolding all_reduced
 reduced_words [] h = tt
 reduced_words (n ∷ ns) h =

@@ -1,6 +1,6 @@
 -- One byte more in a text, by the place where it stands and its kind: the tests in the order of the machine.
 -- Each is the machine's own clause with its tests decided.
-use Rattle.std.proofs.Common.{◌≡◌, ℕ, ◌+◌, ◌-◌, ◌*◌, true, false, eqb, List, ◌∷◌, None, eq-eqb, ne_eqb}
+use Rattle.std.proofs.Common.{◌≡◌, ℕ, ◌+◌, ◌-◌, ◌*◌, true, false, List, ◌∷◌, None, eq-eqb, ne_eqb}
 use Rattle.texts.specs.Texts.{is_space, is_digit, capped}
 use Rattle.texts.specs.Machine.{first, between, comment, word, with, read_from}
 

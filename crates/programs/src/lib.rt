@@ -1,5 +1,7 @@
 // All that the programs do, as functions and small machines on values: a line in, a line out.
 // Each main only moves lines.
+#![tactic(auto)]
+
 pub mod answering;
 pub mod dice;
 pub mod drawn;

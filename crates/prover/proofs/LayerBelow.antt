@@ -1,6 +1,6 @@
 -- The prover of the layer below, made from the coins of this layer: its claim, its layers and that it is sound.
 -- All coins of this layer are drawn, so that its point has three whole parts.
-use Rattle.std.proofs.Common.{◌≡◌, ℕ, ◌+◌, ◌-◌, ◌*◌, ◌^◌, ◌<◌, T, List, [], ◌∷◌, length, get_or, take, drop, Some, sym, ap, ◌∙◌, subst, ap₂, arith}
+use Rattle.std.proofs.Common.{◌≡◌, ℕ, ◌+◌, ◌*◌, ◌^◌, ◌<◌, T, List, [], ◌∷◌, length, get_or, take, drop, Some, sym, ap, ◌∙◌, subst, ap₂, arith}
 use Rattle.std.proofs.lemmas.List.{drop_more, drop-take, take-take}
 use Rattle.arithmetic.specs.Numbers.{modulo, all_reduced}
 use Rattle.circuits.specs.Circuit.{Layer, size_below}

@@ -1,6 +1,6 @@
 -- The prover at the outputs' layer says what the honest prover says after the first coins.
 -- Its words are parts of the circuit's and of these coins.
-use Rattle.std.proofs.Common.{◌≡◌, ℕ, ◌+◌, ◌-◌, ◌*◌, ◌^◌, ◌<◌, ◌≤◌, true, ◌&&◌, T, leb, List, [], ◌∷◌, ◌++◌, length, take, drop, None, sym, ap, ◌∙◌, subst, ap₂, arith, pow-add}
+use Rattle.std.proofs.Common.{◌≡◌, ℕ, ◌+◌, ◌*◌, ◌^◌, ◌<◌, ◌≤◌, true, ◌&&◌, T, leb, List, [], ◌∷◌, ◌++◌, length, take, drop, None, sym, ap, ◌∙◌, subst, ap₂, arith, pow-add}
 use Rattle.std.proofs.lemmas.List.{drop-take, take-take, take_at, drop_at, length-take-le}
 use Rattle.std.proofs.lemmas.Bool.{and_parts, leb-true}
 use Rattle.arithmetic.specs.Numbers.{modulo, all_reduced}

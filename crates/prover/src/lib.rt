@@ -1,5 +1,7 @@
 // The honest prover: a machine that goes step by step in lent memory, an answer out and a coin in.
 // Its tables are halved after each coin, so that a layer takes time in proportion to the gates of all copies.
+#![tactic(auto)]
+
 pub mod answer;
 pub mod coins;
 pub mod hearing;

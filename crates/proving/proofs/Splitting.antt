@@ -1,6 +1,6 @@
 -- Answers that lie side by side, taken apart again: those of four numbers each.
 -- And the answers along coins, from some of these coins on.
-use Rattle.std.proofs.Common.{◌≡◌, ℕ, zero, suc, ◌+◌, ◌*◌, ◌<◌, List, [], ◌++◌, length, get_or, take, drop, sym, refl, ap, ◌∙◌, ap₂, append_assoc, le_of_suc-le-suc, not-suc-le-zero, add-zero, add_assoc, suc-add, zero-add, arith, length-append, take-add}
+use Rattle.std.proofs.Common.{◌≡◌, ℕ, zero, suc, ◌+◌, ◌*◌, ◌<◌, List, [], ◌++◌, length, get_or, take, drop, sym, refl, ap, ◌∙◌, ap₂, append_assoc, le_of_suc-le-suc, not-suc-le-zero, add-zero, add_assoc, arith, length-append, take-add}
 use Rattle.std.proofs.lemmas.List.{take_at, drop_at}
 use Rattle.argument.specs.Sumcheck.{Prover}
 use Rattle.argument.specs.Transcript.{fours, answers_along}

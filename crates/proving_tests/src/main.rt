@@ -1,5 +1,7 @@
 // A table of circuits and coins: what `prove` writes is judged, as it is and with each of its numbers changed by one.
 // A coin that is itself 0, 1, 2 or 3 looks at the value there alone, so that a change at 2 or 3 may not be seen.
+#![tactic(auto)]
+
 use judging::judge::{Judge, VerifierJudge};
 use proving::house::{HonestHouse, House};
 use std::io;

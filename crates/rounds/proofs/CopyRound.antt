@@ -1,6 +1,6 @@
 -- One round of the copies' variables: the pass over rows and gates gives the sum over the corners that are left.
 -- At the bits of a row, tables are lines in the round's variable, between the row and its partner in the upper half.
-use Rattle.std.proofs.Common.{◌≡◌, ℕ, zero, suc, ◌+◌, ◌-◌, ◌*◌, ◌^◌, ◌<◌, ◌≤◌, List, [], ◌∷◌, ◌++◌, length, get_or, drop, sym, refl, ap, ◌∙◌, ap₂, mul-le-mul_right, add-mul, arith, get_or-drop, get_or-take, get_or-append-add, pow-add}
+use Rattle.std.proofs.Common.{◌≡◌, ℕ, zero, suc, ◌+◌, ◌*◌, ◌^◌, ◌<◌, ◌≤◌, List, [], ◌∷◌, ◌++◌, length, get_or, drop, sym, refl, ap, ◌∙◌, ap₂, mul-le-mul_right, add-mul, arith, get_or-drop, get_or-take, get_or-append-add, pow-add}
 use lib.ListN.{get_or-append}
 use Rattle.arithmetic.specs.Numbers.{Numbers}
 use Rattle.arithmetic.proofs.Ring.{Ring, reduce-mul}

@@ -1,5 +1,7 @@
 // run CIRCUIT INPUTS: works a circuit out and prints its outputs, 16 in a line.
 // A refusal prints `no` and its number and ends with status 1.
+#![tactic(auto)]
+
 use programs::room::outputs_len;
 use std::env;
 use std::process::ExitCode;

@@ -1,6 +1,6 @@
 -- What the code leaves in the memory that it is lent: a table halved again and again, and the table of eq at all corners.
 -- And the formulas that it computes number by number.
-use Rattle.std.specs.Prelude.{ℕ, ◌/◌, ◌^◌, List, [], ◌∷◌, ◌++◌, map, length, drop}
+use Rattle.std.specs.Prelude.{◌/◌, ◌^◌, List, [], ◌∷◌, ◌++◌, map, length, drop}
 use Rattle.std.specs.List.{range_with_len}
 use Rattle.arithmetic.specs.Numbers.{Numbers}
 use Rattle.tables.specs.Multilinear.{fix_first, eq_poly, bits_of}

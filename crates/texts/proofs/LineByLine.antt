@@ -1,9 +1,8 @@
 -- The numbers of a text are those of its first line, and then those of what comes after its line end.
 -- A line end cuts, whatever words stand before it.
-use Rattle.std.proofs.Common.{◌≡◌, ℕ, false, List, [], ◌∷◌, ◌++◌, Some, None, Option, sym, refl, ap, ◌∙◌, append_assoc}
+use Rattle.std.proofs.Common.{◌≡◌, ℕ, false, List, [], ◌∷◌, ◌++◌, Some, None, Option, sym, refl, ap, ◌∙◌}
 use Rattle.std.proofs.lemmas.List.{append-nil}
-use Rattle.std.specs.List.{flat_map, AllByRecursion as All}
-use Rattle.std.specs.Option.{option_map}
+use Rattle.std.specs.List.{flat_map, AllByRecursion}
 use Rattle.texts.specs.Texts.{is_line_end, first_piece, later_pieces, pieces, words_of, number_after, before, numbers_in, numbers_of}
 use Rattle.texts.proofs.Reading.{after_none}
 use Rattle.texts.specs.Theorems.{and_then, LineByLine}
@@ -11,22 +10,22 @@ use Rattle.texts.specs.Theorems.{and_then, LineByLine}
 abbrev Inside : ℕ → Type 0
 Inside c = is_line_end c ≡ false
 
-first_line : (line rest : List ℕ) → All Inside line → first_piece is_line_end (line ++ (10 ∷ rest)) ≡ line
+first_line : (line rest : List ℕ) → AllByRecursion Inside line → first_piece is_line_end (line ++ (10 ∷ rest)) ≡ line
 unfolding first_piece
 first_line [] rest all = refl
 first_line (c ∷ line) rest all = rw all.0 (ap (λ (l : List ℕ). c ∷ l) (first_line line rest all.1))
 
-later_lines : (line rest : List ℕ) → All Inside line → later_pieces is_line_end (line ++ (10 ∷ rest)) ≡ pieces is_line_end rest
+later_lines : (line rest : List ℕ) → AllByRecursion Inside line → later_pieces is_line_end (line ++ (10 ∷ rest)) ≡ pieces is_line_end rest
 unfolding later_pieces
 later_lines [] rest all = refl
 later_lines (c ∷ line) rest all = rw all.0 (later_lines line rest all.1)
 
-first_only : (line : List ℕ) → All Inside line → first_piece is_line_end line ≡ line
+first_only : (line : List ℕ) → AllByRecursion Inside line → first_piece is_line_end line ≡ line
 unfolding first_piece
 first_only [] all = refl
 first_only (c ∷ line) all = rw all.0 (ap (λ (l : List ℕ). c ∷ l) (first_only line all.1))
 
-later_none : (line : List ℕ) → All Inside line → later_pieces is_line_end line ≡ []
+later_none : (line : List ℕ) → AllByRecursion Inside line → later_pieces is_line_end line ≡ []
 unfolding later_pieces
 later_none [] all = refl
 later_none (c ∷ line) all = rw all.0 (later_none line all.1)

@@ -1,10 +1,9 @@
 -- The machine that goes over a text byte by byte answers what the definition by lines and words answers.
 -- Each of its places means the words that are left of this line, and then the lines after it.
-use Rattle.std.proofs.Common.{◌≡◌, ℕ, ◌+◌, ◌-◌, ◌*◌, Bool, true, false, cond, eqb, List, [], ◌∷◌, ◌++◌, Some, None, Option, sym, refl, ap, ◌∙◌, subst, ⊎_elim, arith}
+use Rattle.std.proofs.Common.{◌≡◌, ℕ, ◌+◌, ◌-◌, ◌*◌, Bool, true, false, eqb, List, [], ◌∷◌, ◌++◌, Option, sym, refl, ap, ⊎_elim, arith}
 use Rattle.std.specs.List.{flat_map}
-use Rattle.std.specs.Option.{option_map}
 use Rattle.std.proofs.lemmas.Bool.{cases_Bool}
-use Rattle.texts.specs.Machine.{Place, first, between, comment, word, with, read_from}
+use Rattle.texts.specs.Machine.{first, between, comment, word, with, read_from}
 use Rattle.texts.specs.Texts.{is_line_end, is_space, is_digit, first_piece, later_pieces, pieces, filled, words_of, capped, number_after, before, numbers_in, numbers_of}
 
 -- ---- what the machine means

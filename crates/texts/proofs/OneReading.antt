@@ -1,11 +1,11 @@
 -- The numbers of a text are those that it reads as, and so a text has one reading at most.
 -- From a reading to the machine's answer, and back from the answer to what the text is made of.
-use Rattle.std.proofs.Common.{◌≡◌, ℕ, ◌+◌, ◌-◌, ◌*◌, ◌^◌, ◌<◌, ◌≤◌, Bool, true, false, cond, eqb, List, [], ◌∷◌, ◌++◌, length, Some, None, Option, sym, refl, ap, ◌∙◌, subst, ⊎_elim, add-zero, zero-add, mul-one, arith}
+use Rattle.std.proofs.Common.{◌≡◌, ℕ, ◌+◌, ◌-◌, ◌*◌, ◌^◌, Bool, true, false, eqb, List, [], ◌∷◌, ◌++◌, length, Some, None, Option, sym, refl, ap, ◌∙◌, subst, add-zero, zero-add, mul-one, arith}
 use native.Mathlib.Nat.{pow-succ'}
 use Rattle.std.proofs.lemmas.Bool.{eqb-true, or_left, or_right}
-use Rattle.std.specs.List.{AllByRecursion as All}
+use Rattle.std.specs.List.{AllByRecursion}
 use Rattle.texts.specs.Machine.{first, between, comment, word, with, read_from}
-use Rattle.texts.specs.Texts.{is_line_end, is_space, is_gap, is_digit, capped, numbers_of}
+use Rattle.texts.specs.Texts.{is_line_end, is_space, is_gap, is_digit, capped}
 use Rattle.texts.specs.Theorems.{value_of, Stops, Reads, nothing, line_end, space, comment_line, number, OneReading}
 use Rattle.texts.proofs.Meaning.{by_test, numbers_of_is, capped_digit}
 use Rattle.texts.proofs.RoundTrip.{Digit, weigh, number_read, gap_first}
@@ -15,7 +15,7 @@ abbrev Inside : ℕ → Type 0
 Inside c = is_line_end c ≡ false
 
 -- ---- from a reading to the numbers
-comment_read : (cs rest : List ℕ) → All Inside cs → Stops is_line_end rest → read_from comment (cs ++ rest) ≡ read_from between rest
+comment_read : (cs rest : List ℕ) → AllByRecursion Inside cs → Stops is_line_end rest → read_from comment (cs ++ rest) ≡ read_from between rest
 unfolding read_from
 comment_read [] [] all stops = refl
 comment_read [] (c ∷ rest) all stops = rw stops refl
@@ -43,7 +43,7 @@ record CommentRest (cs ns : List ℕ) : Type 0 where
   said : List ℕ
   rest : List ℕ
   cut : cs ≡ said ++ rest
-  inside : All Inside said
+  inside : AllByRecursion Inside said
   stops : Stops is_line_end rest
   on : Reads false rest ns
 
@@ -53,7 +53,7 @@ record WordRest (n : ℕ) (cs ms : List ℕ) : Type 0 where
   rest : List ℕ
   ns : List ℕ
   cut : cs ≡ digits ++ rest
-  all : All Digit digits
+  all : AllByRecursion Digit digits
   stops : Stops is_gap rest
   on : Reads false rest ns
   is : ms ≡ capped (n * 10 ^ length digits + value_of digits) ∷ ns

@@ -1,15 +1,15 @@
 -- Numbers that are written in a line, or in lines, are read again.
 -- A word is read digit by digit, and what follows it is read on its own.
-use Rattle.std.proofs.Common.{◌≡◌, ℕ, zero, suc, ◌+◌, ◌-◌, ◌*◌, ◌^◌, ◌<◌, ◌≤◌, Bool, true, false, cond, eqb, leb, List, [], ◌∷◌, ◌++◌, length, take, drop, Some, None, decimal, Option, sym, refl, ap, ◌∙◌, subst, ⊎_elim, append_assoc, append-nil, add-zero, add_assoc, mul_assoc, mul_comm, add-mul, zero-add, zero-mul, mul-one, arith, length-drop, take-append-drop}
-use native.Mathlib.Nat.{pow-zero, pow-succ'}
+use Rattle.std.proofs.Common.{◌≡◌, ℕ, zero, suc, ◌+◌, ◌-◌, ◌*◌, ◌^◌, ◌<◌, ◌≤◌, Bool, true, false, eqb, leb, List, [], ◌∷◌, ◌++◌, length, take, drop, Some, None, decimal, Option, sym, refl, ap, ◌∙◌, ⊎_elim, append_assoc, append-nil, add-zero, add_assoc, mul_assoc, mul_comm, add-mul, zero-add, zero-mul, mul-one, arith, length-drop, take-append-drop}
+use native.Mathlib.Nat.{pow-succ'}
 use Rattle.std.proofs.lemmas.Fmt.{digits_decimal, digits_value-decimal, decimal_nonempty}
 use Rattle.std.proofs.ByRecursion.{All-take, All-drop}
-use Rattle.std.proofs.lemmas.Str.Parse.{IsNumeralModel, IsDigitsTest, WeighsDigits, numerals_by_weight}
+use Rattle.std.proofs.lemmas.Str.Parse.{IsNumeralModel, numerals_by_weight}
 use Rattle.std.proofs.lemmas.Bool.{and_parts, and_from, leb-true, le-leb, ne_eqb, or_cases, or_from}
 use Rattle.std.specs.Int.{IsInRange}
-use Rattle.std.specs.List.{AllByRecursion as All}
-use Rattle.texts.specs.Machine.{first, between, word, with, read_from}
-use Rattle.texts.specs.Texts.{is_line_end, is_space, is_gap, is_digit, capped, numbers_of, line_of, lines_by, lines_of}
+use Rattle.std.specs.List.{AllByRecursion}
+use Rattle.texts.specs.Machine.{first, word, with, read_from}
+use Rattle.texts.specs.Texts.{is_line_end, is_space, is_gap, is_digit, capped, line_of, lines_by, lines_of}
 use Rattle.texts.specs.Theorems.{RoundTrip, value_of, Stops}
 use Rattle.texts.proofs.Meaning.{numbers_of_is, capped_digit}
 use Rattle.texts.proofs.Reading.{after, after_none}
@@ -35,15 +35,15 @@ pub digit_no_hash : (c : ℕ) → Digit c → eqb c 35 ≡ false
 digit_no_hash c d = ne_eqb c 35 (λ e. omega (arith, (digit_in c d).0))
 
 -- the library's words for decimal numbers are ours
-own : IsNumeralModel (All Digit) value_of
-own = numerals_by_weight (All Digit) (record { empty = tt; parts = λ c cs p. (digit_in c p.0, p.1); more = λ c cs h p. (in_digit c h, p) }) value_of (record { empty = refl; more = λ c cs h. refl })
+own : IsNumeralModel (AllByRecursion Digit) value_of
+own = numerals_by_weight (AllByRecursion Digit) (record { empty = tt; parts = λ c cs p. (digit_in c p.0, p.1); more = λ c cs h p. (in_digit c h, p) }) value_of (record { empty = refl; more = λ c cs h. refl })
 
 -- ---- a word
 pub weigh : (n d p v : ℕ) → (10 * n + d) * p + v ≡ n * (10 * p) + (d * p + v)
 weigh n d p v =
     ap (λ x. x + v) (add-mul (10 * n) d p) ∙ add_assoc (10 * n * p) (d * p) v ∙ ap (λ x. x + (d * p + v)) (ap (λ x. x * p) (mul_comm 10 n) ∙ mul_assoc n 10 p)
 
-pub digits_read : (ds rest : List ℕ) (n : ℕ) → All Digit ds → read_from (word (capped n)) (ds ++ rest) ≡ read_from (word (capped (n * 10 ^ length ds + value_of ds))) rest
+pub digits_read : (ds rest : List ℕ) (n : ℕ) → AllByRecursion Digit ds → read_from (word (capped n)) (ds ++ rest) ≡ read_from (word (capped (n * 10 ^ length ds + value_of ds))) rest
 unfolding read_from
 digits_read [] rest n all = ap (λ m. read_from (word (capped m)) rest) (sym (add-zero (n * 10 ^ 0) ∙ mul-one n))
 digits_read (c ∷ cs) rest n all =
@@ -60,7 +60,7 @@ unfolding read_from
 word_stops n [] stops = refl
 word_stops n (c ∷ cs) stops = at_gap n c cs stops
 
-pub number_read : (b : Bool) (ds rest : List ℕ) → 0 < length ds → All Digit ds → Stops is_gap rest → read_from (outside b) (ds ++ rest) ≡ with (capped (value_of ds)) (read_from first rest)
+pub number_read : (b : Bool) (ds rest : List ℕ) → 0 < length ds → AllByRecursion Digit ds → Stops is_gap rest → read_from (outside b) (ds ++ rest) ≡ with (capped (value_of ds)) (read_from first rest)
 number_read b [] rest some all stops = absurd (omega arith)
 number_read b (d ∷ ds) rest some all stops =
     number_begins b d (ds ++ rest) all.0 ∙ digits_read (d ∷ ds) rest 0 all ∙ ap (λ m. read_from (word (capped m)) rest) (ap (λ x. x + value_of (d ∷ ds)) (zero-mul (10 ^ length (d ∷ ds))) ∙ zero-add (value_of (d ∷ ds))) ∙ word_stops (capped (value_of (d ∷ ds))) rest stops
@@ -90,14 +90,14 @@ with-after : (n : ℕ) (ns : List ℕ) (o : Option (List ℕ)) → with n (after
 with-after n ns None = refl
 with-after n ns (Some ms) = refl
 
-line_read : (b : Bool) (ns rest : List ℕ) → All Word ns → Stops is_gap rest → read_from (outside b) (line_of ns ++ rest) ≡ after ns (read_from first rest)
+line_read : (b : Bool) (ns rest : List ℕ) → AllByRecursion Word ns → Stops is_gap rest → read_from (outside b) (line_of ns ++ rest) ≡ after ns (read_from first rest)
 unfolding line_of read_from
 line_read b [] rest all stops = gap_first b rest stops ∙ sym (after_none (read_from first rest))
 line_read b (n ∷ []) rest all stops = decimal_read b n rest all.0 stops
 line_read b (n ∷ m ∷ ns) rest all stops =
     ap (read_from (outside b)) (append_assoc (decimal n) (32 ∷ line_of (m ∷ ns)) rest) ∙ decimal_read b n (32 ∷ (line_of (m ∷ ns) ++ rest)) all.0 refl ∙ ap (with n) (line_read false (m ∷ ns) rest all.1 stops) ∙ with-after n (m ∷ ns) (read_from first rest)
 
-lines_read : (turns k : ℕ) (ns : List ℕ) → 0 < k → length ns ≤ turns → All Word ns → read_from first (lines_by turns k ns) ≡ Some ns
+lines_read : (turns k : ℕ) (ns : List ℕ) → 0 < k → length ns ≤ turns → AllByRecursion Word ns → read_from first (lines_by turns k ns) ≡ Some ns
 unfolding lines_by read_from
 lines_read zero k [] some enough all = refl
 lines_read zero k (n ∷ ns) some enough all = absurd (omega arith)

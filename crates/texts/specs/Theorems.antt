@@ -1,7 +1,7 @@
 -- What is true of texts, in words of their own: what is written is read again, lines may be read one by one, and a text has one reading at most.
 -- A reading is given by what a text is made of, with no machine and no order in which to go.
 use Rattle.std.specs.Prelude.{◌≡◌, ℕ, ◌+◌, ◌-◌, ◌*◌, ◌^◌, ◌<◌, Bool, true, false, List, [], ◌∷◌, ◌++◌, length, Some, None, Option}
-use Rattle.std.specs.List.{AllByRecursion as All}
+use Rattle.std.specs.List.{AllByRecursion}
 use Rattle.std.specs.Option.{option_map}
 use Rattle.texts.specs.Texts.{is_line_end, is_space, is_gap, is_digit, capped, numbers_of, line_of, lines_of}
 
@@ -9,7 +9,7 @@ use Rattle.texts.specs.Texts.{is_line_end, is_space, is_gap, is_digit, capped, n
 -- numbers that are words of 32 bits, in a line, and in lines of k numbers
 abbrev pub RoundTrip : Type 0
 RoundTrip =
-    (ns : List ℕ) → All (λ n. n < 2 ^ 32) ns → (numbers_of (line_of ns) ≡ Some ns) × ((k : ℕ) → 0 < k → numbers_of (lines_of k ns) ≡ Some ns)
+    (ns : List ℕ) → AllByRecursion (λ n. n < 2 ^ 32) ns → (numbers_of (line_of ns) ≡ Some ns) × ((k : ℕ) → 0 < k → numbers_of (lines_of k ns) ≡ Some ns)
 
 -- ---- line by line
 -- the numbers of one text and then of another, if both have numbers
@@ -20,7 +20,7 @@ and_then (Some ns) p = option_map (λ ms. ns ++ ms) p
 -- a text may be read line by line: each line is a text
 abbrev pub LineByLine : Type 0
 LineByLine =
-    (line rest : List ℕ) → All (λ c. is_line_end c ≡ false) line → numbers_of (line ++ (10 ∷ rest)) ≡ and_then (numbers_of line) (numbers_of rest)
+    (line rest : List ℕ) → AllByRecursion (λ c. is_line_end c ≡ false) line → numbers_of (line ++ (10 ∷ rest)) ≡ and_then (numbers_of line) (numbers_of rest)
 
 -- ---- one reading
 -- the number that digits write: each counts by the power of ten of its place
@@ -39,9 +39,9 @@ pub data Reads : Bool → List ℕ → List ℕ → Type 0 where
   line_end : {at_first : Bool} {rest ns : List ℕ} (c : ℕ) → is_line_end c ≡ true → Reads true rest ns → Reads at_first (c ∷ rest) ns
   space : {at_first : Bool} {rest ns : List ℕ} (c : ℕ) → is_space c ≡ true → Reads false rest ns → Reads at_first (c ∷ rest) ns
   comment_line :
-      {rest ns : List ℕ} (cs : List ℕ) → All (λ c. is_line_end c ≡ false) cs → Stops is_line_end rest → Reads false rest ns → Reads true (35 ∷ (cs ++ rest)) ns
+      {rest ns : List ℕ} (cs : List ℕ) → AllByRecursion (λ c. is_line_end c ≡ false) cs → Stops is_line_end rest → Reads false rest ns → Reads true (35 ∷ (cs ++ rest)) ns
   number :
-      {at_first : Bool} {rest ns : List ℕ} (d : ℕ) (ds : List ℕ) → All (λ c. is_digit c ≡ true) (d ∷ ds) → Stops is_gap rest → Reads false rest ns → Reads at_first (d ∷ (ds ++ rest)) (capped (value_of (d ∷ ds)) ∷ ns)
+      {at_first : Bool} {rest ns : List ℕ} (d : ℕ) (ds : List ℕ) → AllByRecursion (λ c. is_digit c ≡ true) (d ∷ ds) → Stops is_gap rest → Reads false rest ns → Reads at_first (d ∷ (ds ++ rest)) (capped (value_of (d ∷ ds)) ∷ ns)
 
 -- the numbers of a text are those that it reads as, and there are no others
 pub record OneReading : Type 0 where

@@ -3,7 +3,6 @@ use Rattle.std.proofs.Common.{◌≡◌, ℕ, ◌<◌, List, length, get_or, ap,
 use Rattle.arithmetic.specs.Numbers.{modulo}
 use Rattle.arithmetic.specs.Cubic.{interpolate}
 use Rattle.arithmetic.proofs.Newton.{four_below, four_places, newton_steps}
-use Rattle.arithmetic.proofs.cubic.cubic_at.Given as given
 use Rattle.arithmetic.proofs.cubic.cubic_at.Goals as goal
 
 pub sub-first-requires : goal.sub-first-requires

@@ -1,5 +1,4 @@
 -- The masked bytes make the definition's number, and the test on it decides.
-use Rattle.std.proofs.Common.{arith}
 use Rattle.programs.proofs.LowBits.{masked_low_bits, no_coin, one_coin}
 use Rattle.programs.proofs.dice.coin_of_bytes.Goals as goal
 

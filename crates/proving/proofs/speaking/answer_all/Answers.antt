@@ -1,5 +1,5 @@
 -- Each turn writes one answer and takes the coin after it.
-use Rattle.std.proofs.Common.{◌≡◌, ◌-◌, length, arith}
+use Rattle.std.proofs.Common.{◌≡◌, arith}
 use Rattle.arithmetic.proofs.Newton.{reduced_at}
 use Rattle.circuits.specs.Words.{modulus}
 use Rattle.prover.specs.Answers.{numbers_of}

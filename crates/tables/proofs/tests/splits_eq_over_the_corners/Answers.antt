@@ -5,8 +5,8 @@ use Rattle.tables.proofs.tests.splits_eq_over_the_corners.Goals as goal
 
 pub eq_table-requires : goal.eq_table-requires
 unfolding all_reduced
-eq_table-requires c = record { room = lit≤ tt; point_reduced = tt }
+eq_table-requires c d = record { room = lit≤ tt; point_reduced = tt }
 
 pub eq_at-requires : goal.eq_at-requires
 unfolding all_reduced
-eq_at-requires c = record { length = refl; a_reduced = tt; b_reduced = tt }
+eq_at-requires c d = record { length = refl; a_reduced = tt; b_reduced = tt }

@@ -1,5 +1,5 @@
 -- One number more: it stands at its place if there is room, and the words beyond it are as they were.
-use Rattle.std.proofs.Common.{◌≡◌, ◌<◌, length, drop, set, sym, arith}
+use Rattle.std.proofs.Common.{◌≡◌, ◌<◌, length, drop, set, arith}
 use Rattle.texts.proofs.Reading.{at_number, filled_more}
 use Rattle.texts.proofs.whole.read_into.Goals as goal
 use Rattle.texts.proofs.whole.read_into.Goals.{then-count-room, else-count-room}

@@ -1,7 +1,6 @@
 -- A digit leads on in the word; another byte refuses the text; a gap, or the end of the text, ends the word.
-use Rattle.std.proofs.Common.{◌+◌, get_or, drop, sym, refl, ap, ◌∙◌, arith}
+use Rattle.std.proofs.Common.{◌+◌, drop, sym, refl, ap, ◌∙◌, arith}
 use Rattle.texts.specs.Machine.{read_from, word}
-use Rattle.texts.specs.Texts.{is_gap}
 use Rattle.texts.proofs.Steps.{word_begins, word_goes_on, word_breaks, word_ends, gap_later}
 use Rattle.texts.proofs.words.read_word.Goals as goal
 

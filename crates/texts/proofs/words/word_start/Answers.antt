@@ -1,5 +1,5 @@
 -- Each turn passes a line end, a space or a comment; at any other byte a word begins.
-use Rattle.std.proofs.Common.{true, false, eqb, get_or, drop, sym, ap, ◌∙◌, arith}
+use Rattle.std.proofs.Common.{eqb, get_or, drop, sym, ap, ◌∙◌, arith}
 use Rattle.std.proofs.lemmas.Bool.{or_from, ne_eqb, both_ways}
 use Rattle.texts.specs.Machine.{read_from}
 use Rattle.texts.specs.Texts.{is_space}

@@ -1,6 +1,6 @@
 -- Each turn writes a gap and a number, and so the line of one number more.
 -- At the end it is the line of all.
-use Rattle.std.proofs.Common.{◌≡◌, ℕ, ◌+◌, List, [], ◌∷◌, ◌++◌, get_or, take, decimal, sym, refl, ap, ◌∙◌, subst}
+use Rattle.std.proofs.Common.{◌≡◌, ℕ, ◌+◌, List, [], ◌∷◌, ◌++◌, get_or, take, decimal, sym, refl, ap, ◌∙◌}
 use lib.Utf8.{encode}
 use Rattle.std.proofs.Output.{writes_in_calls_nil, has_written_append, has_written_of_eq}
 use Rattle.std.proofs.lemmas.List.{take_all}
