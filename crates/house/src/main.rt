@@ -1,5 +1,7 @@
 // house CIRCUIT INPUTS: the honest prover. It reads the first coins, one a line, and then by turns prints an answer and
 // reads a coin; the last coin has no answer after it.
+#![tactic(auto)]
+
 ghost use Rattle.std.specs.Prelude.{◌≡◌, ◌<◌, length, IfOk};
 ghost use Rattle.argument.specs.Argument.{first_coins};
 ghost use Rattle.circuits.specs.Words.{modulus, circuit_of};
