@@ -77,7 +77,7 @@ impl Dice {
     }
 
     // The next word; a file that cannot be read holds none that is a number, and the reason goes to standard error.
-    pub fn word(&mut self, rt: &HostRuntime) -> Result<Drawn, Failure>
+    fn word(&mut self, rt: &HostRuntime) -> Result<Drawn, Failure>
         ensures { IfErr result IsSystem }
     {
         match self.draw() {

@@ -11,7 +11,7 @@ use circuits::Refusal;
 
 impl Answer {
     // Only the verifier makes an answer, of numbers that it has found to fit.
-    pub fn new(numbers: Numbers) -> Answer
+    pub(crate) fn new(numbers: Numbers) -> Answer
         ensures { answer_seen result ≡ numbers_seen numbers }
     {
         Answer { numbers }
@@ -37,7 +37,7 @@ impl Answer {
 
 impl Coin {
     // The answer that the coin fell for, and its number: only a step of the verifier spends a coin.
-    pub fn spend(self) -> (Numbers, u32)
+    pub(crate) fn spend(self) -> (Numbers, u32)
         ensures { (numbers_seen result.0 ≡ coin_answer self) × (result.1 ≡ coin_word self) × (result.1 < modulus) }
     {
         let Coin { numbers, word } = self;

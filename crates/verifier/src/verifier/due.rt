@@ -15,7 +15,7 @@ impl<'a> Verifier<'a> {
     }
 
     // How many variables each of x and y has.
-    pub fn size_below(&self) -> usize
+    pub(super) fn size_below(&self) -> usize
         requires { 0 < length (stand_of self.now).layers }
         ensures value { result ≡ size_under (stand_of self.now) }
         ensures limit { (stand_of self.now).copies + result ≤ 16 }

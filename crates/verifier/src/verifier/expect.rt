@@ -66,7 +66,7 @@ impl<'a> Verifier<'a> {
         eq_at::<Mersenne31>(&self.claim.copy[0..copies], &self.point[0..copies])
     }
 
-    pub fn expected(&self, a: u32, b: u32) -> u32
+    pub(super) fn expected(&self, a: u32, b: u32) -> u32
         requires some { 0 < length (stand_of self.now).layers }
         requires done { variables_of (stand_of self.now) ≤ length (stand_of self.now).point }
         requires values { (a < modulus31) × (b < modulus31) }

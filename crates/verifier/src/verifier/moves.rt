@@ -13,7 +13,7 @@ use claims::cut::MOST_VARIABLES;
 
 impl<'a> Verifier<'a> {
     // The next variable, after a coin, with what is then claimed of the sum.
-    pub fn advanced(&self, coin: u32, total: u32) -> Verifier<'a>
+    pub(super) fn advanced(&self, coin: u32, total: u32) -> Verifier<'a>
         requires due { length (stand_of self.now).point < variables_of (stand_of self.now) }
         requires reduced { (coin < modulus) × (total < modulus) }
         ensures stand { stand_of result ≡ after_variable (stand_of self.now) coin total }
@@ -33,7 +33,7 @@ impl<'a> Verifier<'a> {
     }
 
     // The layer below, with a claim about it.
-    pub fn descended(&self, claim: Claim) -> Verifier<'a>
+    pub(super) fn descended(&self, claim: Claim) -> Verifier<'a>
         requires { 0 < length (stand_of self.now).layers }
         ensures stand { stand_of result ≡ stand_at (stand_of self.now).copies (stand_of self.now).inputs ((stand_of self.now).layer + 1) (drop 1 (stand_of self.now).layers) (claim_meant (stand_of self.now).copies (size_below (drop 1 (stand_of self.now).layers) (stand_of self.now).inputs) claim) }
         ensures inputs { inputs_of result ≡ inputs_of self.now }
