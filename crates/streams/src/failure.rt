@@ -62,7 +62,7 @@ pub fn tell(rt: &HostRuntime, usage: &str, failure: &Failure) -> io::Result<()> 
     }
 }
 
-// How a program ends that has done its work so: a failure is told, and given back it makes the status 1.
+// How a program ends that has done its work so: a failure is reported, and given back it makes the status 1.
 pub fn ended(rt: &HostRuntime, usage: &str, done: Result<(), Failure>) -> Result<(), Failure>
     ensures { OnOk result (is_err done ≡ false) }
 {
