@@ -124,6 +124,10 @@ pub record Walking (vs : List ℕ) (s : Stand ℕ) (ws coins : List ℕ) (said d
   pub coins_to_come : drawn + coins_from t ≡ length coins
   pub fresh : length t.point ≡ 0
 
+pub walking_none : (vs : List ℕ) (s : Stand ℕ) (ws coins : List ℕ) → length s.point ≡ 0 → length ws ≡ words_from s → length coins ≡ coins_from s →
+    Walking vs s ws coins 0 0 s
+walking_none vs s ws coins e ew ec = record { resumed = refl; words = omega (arith, ew); coins_to_come = omega (arith, ec); fresh = e }
+
 -- the words and coins of this layer are there
 pub walking_room : {vs : List ℕ} {s : Stand ℕ} {ws coins : List ℕ} {said drawn : ℕ} {t : Stand ℕ} → Walking vs s ws coins said drawn t →
     0 < length t.layers → (said + 4 * variables_of t + 2 ≤ length ws) × (drawn + variables_of t + 1 ≤ length coins)

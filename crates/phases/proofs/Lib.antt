@@ -7,3 +7,4 @@ pub mod TableSteps
 pub mod Starting
 pub mod StartsRead
 pub mod TurnSteps
+pub mod Respond

@@ -1,13 +1,16 @@
 -- The prover's stand after a coin, part by part, and at the start of the next part.
 -- What belongs to the other parts is ruled out by how many coins there are.
-use Rattle.std.proofs.Common.{◌≡◌, ℕ, suc, ◌+◌, ◌-◌, ◌*◌, ◌<◌, ◌≤◌, List, [], ◌∷◌, ◌++◌, length, take, drop, sym, ap, ◌∙◌, subst, arith, length-drop}
-use Rattle.std.proofs.lemmas.List.{take-append-le, drop-append-le, length_push, take_all, drop_all}
+use Rattle.std.proofs.Common.{◌≡◌, ℕ, suc, ◌+◌, ◌-◌, ◌*◌, ◌<◌, ◌≤◌, List, [], ◌∷◌, ◌++◌, length, take, drop, set, sym, ap, ◌∙◌, subst, arith, length-drop}
+use Rattle.std.proofs.lemmas.List.{take_more_set, take-append-le, drop-append-le, length_push, take_all, drop_all}
 use Rattle.circuits.specs.Circuit.{Layer}
 use Rattle.argument.specs.Claims.{Claim}
 use Rattle.phases.specs.Standing.{CopyTables, LeftTables, RightTables, Fixed}
 use Rattle.prover.specs.Provers.{Parts}
 use Rattle.phases.proofs.TableSteps.{left_heard, right_heard}
 use Rattle.phases.proofs.TurnSteps.{one_less}
+
+pub history_more : (point : List ℕ) (drawn coin : ℕ) → drawn < length point → take (drawn + 1) (set point drawn coin) ≡ take drawn point ++ (coin ∷ [])
+history_more point drawn coin h = take_more_set point drawn coin h
 
 module _ (p : ℕ) (l : Layer) (m : ℕ) (k : Claim ℕ) (X : List ℕ) (copies : ℕ) (history : List ℕ) (factor a : ℕ) (v w h j : List ℕ)
     (parts : Parts 0 0 p l m k X copies history factor a v w h j) (r : ℕ) (v' h' j' : List ℕ) where
@@ -84,6 +87,29 @@ module _ (p : ℕ) (l : Layer) (m : ℕ) (k : Claim ℕ) (X : List ℕ) (copies 
 
 -- ---- where the next part begins
 module _ (p : ℕ) (l : Layer) (m : ℕ) (k : Claim ℕ) (X : List ℕ) (copies : ℕ) (history : List ℕ) (factor a : ℕ) (v w h j : List ℕ) where
+  -- elsewhere nothing is made
+  pub parts_on_left : Parts 1 1 p l m k X copies history factor a v w h j → (length history ≡ copies → ⊥) → Parts 0 1 p l m k X copies history factor a v w h j
+  parts_on_left parts other =
+      record {
+        over_copies = λ few. parts.over_copies (omega arith);
+        over_left = λ many few. parts.over_left (above other many) (omega arith);
+        over_right = λ many. parts.over_right many;
+      }
+    where
+      above : (length history ≡ copies → ⊥) → copies + 0 ≤ length history → copies + 1 ≤ length history
+      above other many = let ne : length history ≡ copies → ⊥ = other in omega (arith, ne)
+
+  pub parts_on_right : Parts 0 1 p l m k X copies history factor a v w h j → (length history ≡ copies + m → ⊥) → Parts 0 0 p l m k X copies history factor a v w h j
+  parts_on_right parts other =
+      record {
+        over_copies = λ few. parts.over_copies few;
+        over_left = λ many few. parts.over_left many (omega arith);
+        over_right = λ many. parts.over_right (above other many);
+      }
+    where
+      above : (length history ≡ copies + m → ⊥) → copies + m + 0 ≤ length history → copies + m + 1 ≤ length history
+      above other many = let ne : length history ≡ copies + m → ⊥ = other in omega (arith, ne)
+
   -- the copies' tables, all of their variables being fixed
   pub copies_fixed : Parts 1 1 p l m k X copies history factor a v w h j → length history ≡ copies → CopyTables p l m k X history 0 v w h
   copies_fixed parts all =

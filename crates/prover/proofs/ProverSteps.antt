@@ -1,5 +1,5 @@
 -- The prover's own words: how many coins it has, and that it stays sound as the point grows.
--- And its stand where a part of the layer begins, its tables being made.
+-- And its stand where a part of the layer begins, its tables being made or not needed.
 use Rattle.std.proofs.Common.{◌≡◌, ℕ, ◌+◌, ◌-◌, ◌<◌, ◌≤◌, T, List, [], ◌∷◌, ◌++◌, length, take, drop, Option, sym, ap, ◌∙◌, subst, ap₂, arith, length-set}
 use Rattle.std.proofs.lemmas.List.{length-take-le, take_more_set, drop-take}
 use Rattle.arithmetic.specs.Numbers.{modulo, all_reduced}
@@ -14,7 +14,7 @@ use Rattle.prover.specs.Provers.{Parts, Sound, Stands, claim_held, values_held, 
 use Rattle.phases.specs.Standing.{CopyTables, LeftTables, RightTables}
 use Rattle.prover.specs.declared.prover.HonestProver.{HonestProver}
 use Rattle.fronts.proofs.Gathering.{reduced_set}
-use Rattle.prover.proofs.PartSteps.{copies_fixed, parts_at_left, left_fixed, parts_at_right}
+use Rattle.prover.proofs.PartSteps.{parts_on_left, parts_on_right, copies_fixed, parts_at_left, left_fixed, parts_at_right}
 
 pub history-length : (t : HonestProver) → Sound t → length (history t) ≡ t.drawn
 history-length t s =
@@ -100,6 +100,17 @@ left_settled t v w h j s all f w' h' j' rw' rh rj tables =
           (history-length t s.sound ∙ all) tables;
     }
 
+pub left_passed : (t : HonestProver) (v w h j : List ℕ) → Stands 1 1 t v w h j → (t.drawn ≡ copies_of t → ⊥) → Stands 0 1 t v w h j
+left_passed t v w h j s other =
+    record {
+      sound = s.sound;
+      rooms = s.rooms;
+      room_j = s.room_j;
+      parts =
+          parts_on_left modulus (layer_seen t.layer) (below_of t) (claim_held t) (values_held t) (copies_of t) (history t) t.factor t.at_x v w h j s.parts
+          (λ e. other (sym (history-length t s.sound) ∙ e));
+    }
+
 abbrev pub LeftAt : HonestProver → List ℕ → List ℕ → List ℕ → List ℕ → Type 0
 LeftAt t v w h j =
     LeftTables modulus (layer_seen t.layer) (below_of t) (claim_held t) (values_held t) (take (copies_of t) (history t)) (drop (copies_of t) (history t)) 0 t.factor v w h j
@@ -121,6 +132,17 @@ right_settled t v w h j s all a v' w' h' j' rv rw' rh rj tables =
       parts =
           parts_at_right modulus (layer_seen t.layer) (below_of t) (claim_held t) (values_held t) (copies_of t) (history t) t.factor a v' w' h' j'
           (history-length t s.sound ∙ all) tables;
+    }
+
+pub right_passed : (t : HonestProver) (v w h j : List ℕ) → Stands 0 1 t v w h j → (t.drawn ≡ copies_of t + below_of t → ⊥) → Stands 0 0 t v w h j
+right_passed t v w h j s other =
+    record {
+      sound = s.sound;
+      rooms = s.rooms;
+      room_j = s.room_j;
+      parts =
+          parts_on_right modulus (layer_seen t.layer) (below_of t) (claim_held t) (values_held t) (copies_of t) (history t) t.factor t.at_x v w h j s.parts
+          (λ e. other (sym (history-length t s.sound) ∙ e));
     }
 
 -- a layer at its start: no coin is drawn yet
