@@ -1,7 +1,6 @@
 pub mod Circuit
 pub mod Words
 pub mod Parts
-pub mod Refusals
 pub mod Theorems
 pub mod Values
 pub mod Views

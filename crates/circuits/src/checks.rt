@@ -3,12 +3,12 @@
 ghost use Rattle.std.specs.Prelude.{◌≡◌, ◌+◌, ◌^◌, ◌&&◌, ◌==◌};
 ghost use Rattle.arithmetic.specs.Numbers.{modulo, all_reduced};
 ghost use Rattle.circuits.specs.Circuit.{output_size};
-ghost use Rattle.circuits.specs.Refusals.{RefusedUnless};
+ghost use Rattle.refusals.specs.Refusals.{RefusedUnless};
 ghost use Rattle.circuits.specs.Views.{circuit_seen};
 
-use crate::refusal::Refusal;
 use crate::view::CircuitView;
 use arithmetic::modular::Modular;
+use refusals::Refusal;
 
 pub fn check_counts(circuit: CircuitView, inputs: usize, outputs: usize) -> Result<(), Refusal>
     ensures { RefusedUnless (inputs == 2 ^ ((circuit_seen circuit.entry).copies + (circuit_seen circuit.entry).inputs) && outputs == 2 ^ ((circuit_seen circuit.entry).copies + output_size (circuit_seen circuit.entry))) Refusal.WrongCount result }

@@ -6,13 +6,11 @@ mod checks;
 mod examples;
 mod gate;
 mod places;
-mod refusal;
 mod shape;
 mod view;
 
 pub use checks::{check_counts, check_reduced};
 pub use examples::examples_stand;
 pub use gate::{Gate, Kind};
-pub use refusal::Refusal;
 pub use shape::power;
 pub use view::{CircuitView, LayerView, LayersView, check_circuit};

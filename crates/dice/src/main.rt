@@ -2,9 +2,9 @@
 // If the bytes end first, it has printed the coins so far and prints `no 2`.
 #![tactic(auto)]
 
-use circuits::Refusal;
 use programs::dice::coin_of_bytes;
 use programs::number::one_number;
+use refusals::Refusal;
 use std::io::Read;
 use std::process::ExitCode;
 use std::{env, io};

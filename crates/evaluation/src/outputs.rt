@@ -3,7 +3,7 @@
 ghost use Rattle.std.specs.Prelude.{◌≡◌, ◌*◌, ◌^◌, length};
 ghost use Rattle.arithmetic.specs.Numbers.{modulo};
 ghost use Rattle.circuits.specs.Circuit.{all_values, size_below};
-ghost use Rattle.circuits.specs.Refusals.{answer_of};
+ghost use Rattle.refusals.specs.Refusals.{answer_of};
 ghost use Rattle.circuits.specs.Values.{EachBelow};
 ghost use Rattle.circuits.specs.Views.{layers_seen, copies_above, inputs_below};
 ghost use Rattle.circuits.specs.Words.{run_verdict, run_leaves};
@@ -11,7 +11,8 @@ ghost use Rattle.circuits.specs.Words.{run_verdict, run_leaves};
 use crate::values::work_out;
 use arithmetic::mersenne::Mersenne31;
 use arithmetic::modular::Modular;
-use circuits::{CircuitView, LayersView, Refusal, check_circuit, check_counts, check_reduced};
+use circuits::{CircuitView, LayersView, check_circuit, check_counts, check_reduced};
+use refusals::Refusal;
 
 // No layer of a lawful circuit has more values than this in all copies.
 const MOST_VALUES: usize = 65536;

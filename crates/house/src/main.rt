@@ -10,7 +10,7 @@ ghost use Rattle.programs.specs.Held.{Given};
 ghost use Rattle.prover.specs.Provers.{Stands};
 
 use arithmetic::mersenne::Mersenne31;
-use circuits::{Refusal, check_reduced};
+use circuits::check_reduced;
 use programs::answering::is_last;
 use programs::given::{check_given, open_prover};
 use programs::held::first_coins;
@@ -19,6 +19,7 @@ use prover::answer::Answer;
 use prover::hearing::hear;
 use prover::prover::HonestProver;
 use prover::saying::say;
+use refusals::Refusal;
 use std::env;
 use std::process::ExitCode;
 use streams::failure;

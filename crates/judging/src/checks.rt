@@ -1,14 +1,15 @@
 // What a call's words have to be before the verifier begins: a circuit, as many words as it takes, and numbers.
 // The refusals come in the order of their numbers.
 ghost use Rattle.std.specs.Prelude.{◌≡◌, ◌≤◌, length, MatchResult};
-ghost use Rattle.circuits.specs.Refusals.{RefusedUnless, number_of};
+ghost use Rattle.refusals.specs.Refusals.{RefusedUnless, number_of};
 ghost use Rattle.circuits.specs.Views.{circuit_seen, layers_seen, copies_above, inputs_below};
 ghost use Rattle.argument.specs.Argument.{first_coins, layer_coins};
 ghost use Rattle.argument.specs.Transcript.{layer_words, judged};
 ghost use Rattle.judging.specs.Checks.{lengths_fit, Checked};
 
 use arithmetic::mersenne::Mersenne31;
-use circuits::{CircuitView, LayersView, Refusal, check_circuit, check_counts, check_reduced};
+use circuits::{CircuitView, LayersView, check_circuit, check_counts, check_reduced};
+use refusals::Refusal;
 
 // How many words the answers take for some layers, and how many coins fall for them.
 #[derive(Clone, Copy)]

@@ -1,8 +1,8 @@
 // The call that judges a whole transcript: 0 for believed, or the first number of 1 to 4 that applies.
 // It drives the same verifier that goes step by step where answers and coins come one by one.
 ghost use Rattle.std.specs.Prelude.{◌≡◌, MatchResult};
-ghost use Rattle.circuits.specs.Refusals.{answer_of};
-ghost use Rattle.circuits.specs.Refusals.{number_of as refusal_number};
+ghost use Rattle.refusals.specs.Refusals.{answer_of};
+ghost use Rattle.refusals.specs.Refusals.{number_of as refusal_number};
 ghost use Rattle.circuits.specs.Words.{circuit_of};
 ghost use Rattle.circuits.specs.Views.{words_seen, circuit_seen};
 ghost use Rattle.argument.specs.Transcript.{judged};
@@ -13,7 +13,8 @@ ghost use Rattle.judging.specs.Checks.{Checked, answers_in};
 
 use crate::checks::{check_all, first_coins};
 use crate::transcript::hear_all;
-use circuits::{CircuitView, Refusal};
+use circuits::CircuitView;
+use refusals::Refusal;
 use verdicts::verdict::Verdict;
 use verifier::verifier::Verifier;
 

@@ -1,7 +1,7 @@
 // The circuits of the table with honest answers for them, and one row: what is answered, and where it stops believing.
 // The honest answers were worked out apart from this code.
-use circuits::Refusal;
 use judging::judge::{Judge, VerifierJudge, examine};
+use refusals::Refusal;
 use std::io;
 use verdicts::verdict::{Place, Verdict};
 

@@ -8,7 +8,7 @@ use Rattle.arithmetic.specs.Numbers.{all_reduced}
 use Rattle.arithmetic.proofs.Truth.{path_of_T}
 use Rattle.circuits.specs.Circuit.{outputs}
 use Rattle.circuits.specs.Words.{modulus}
-use Rattle.circuits.specs.declared.refusal.Refusal.TheVariants.{NotReduced}
+use Rattle.refusals.specs.declared.Refusal.TheVariants.{NotReduced}
 use Rattle.argument.specs.Sumcheck.{Prover, after}
 use Rattle.argument.specs.Argument.{first_coins, layer_coins}
 use Rattle.argument.specs.Honest.{honest}

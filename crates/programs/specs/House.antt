@@ -2,8 +2,8 @@
 -- It is given a prover, as a function of the coins so far, and the lines that hold the coins.
 use Rattle.std.specs.Prelude.{ℕ, zero, suc, List, [], ◌∷◌, ◌++◌, Ok, Err, codes, decimal, Option, Result}
 use Rattle.arithmetic.specs.Numbers.{modulo}
-use Rattle.circuits.specs.Refusals.{number_of}
-use Rattle.circuits.specs.declared.refusal.Refusal.{Refusal}
+use Rattle.refusals.specs.Refusals.{number_of}
+use Rattle.refusals.specs.declared.Refusal.{Refusal}
 use Rattle.circuits.specs.Circuit.{Circuit}
 use Rattle.circuits.specs.Words.{modulus}
 use Rattle.argument.specs.Sumcheck.{Prover, after}

@@ -2,8 +2,8 @@
 -- Anything else is a text of no known form.
 use Rattle.std.specs.Prelude.{ℕ, cond, List, [], ◌∷◌, Some, None, Ok, Err, Option, Result, nat_lt}
 use Rattle.circuits.specs.Words.{modulus}
-use Rattle.circuits.specs.declared.refusal.Refusal.{Refusal}
-use Rattle.circuits.specs.declared.refusal.Refusal.TheVariants.{NotReduced, UnknownForm}
+use Rattle.refusals.specs.declared.Refusal.{Refusal}
+use Rattle.refusals.specs.declared.Refusal.TheVariants.{NotReduced, UnknownForm}
 
 abbrev pub one_number : Option (List ℕ) → Result ℕ Refusal
 one_number None = Err UnknownForm

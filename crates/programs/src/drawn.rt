@@ -1,12 +1,13 @@
 // The next word of DICE, as the coin that is due, and where nothing may be left.
 // specs/Judge.antt has both rules, on all words of DICE.
 ghost use Rattle.std.specs.Prelude.{◌≡◌, ℕ, List, [], ◌∷◌, Option, MatchResult};
-ghost use Rattle.circuits.specs.Refusals.{number_of};
+ghost use Rattle.refusals.specs.Refusals.{number_of};
 ghost use Rattle.verdicts.specs.declared.verdict.Verdict.TheVariants.{Believed};
 ghost use Rattle.programs.specs.Drawing.{words_from};
 ghost use Rattle.programs.specs.Judge.{Said, verdict, refusal, drawn, closed};
 
-use circuits::Refusal;
+use refusals::Refusal;
+
 
 #[derive(Clone, Copy, Drop)]
 pub enum Drawn {

@@ -4,7 +4,7 @@ ghost use Rattle.std.specs.Prelude.{◌≡◌, ℕ, ◌+◌, ◌^◌, true, List
 ghost use Rattle.arithmetic.specs.Numbers.{modulo, all_reduced};
 ghost use Rattle.argument.specs.Argument.{first_coins};
 ghost use Rattle.argument.specs.Honest.{honest};
-ghost use Rattle.circuits.specs.Refusals.{number_of};
+ghost use Rattle.refusals.specs.Refusals.{number_of};
 ghost use Rattle.circuits.specs.Words.{modulus, circuit_of, run_verdict};
 ghost use Rattle.phases.specs.Standing.{Rooms};
 ghost use Rattle.prover.specs.Provers.{Stands, speaks};
@@ -12,10 +12,11 @@ ghost use Rattle.circuits.specs.Circuit.{output_size};
 ghost use Rattle.programs.specs.Held.{Given};
 
 use arithmetic::mersenne::Mersenne31;
-use circuits::{CircuitView, Refusal, check_circuit, check_counts, check_reduced};
+use circuits::{CircuitView, check_circuit, check_counts, check_reduced};
 use prover::hearing::begin;
 use prover::opening::open;
 use prover::prover::HonestProver;
+use refusals::Refusal;
 
 pub fn check_given(circuit: &[u32], inputs: &[u32]) -> Result<(), Refusal>
     ensures given { OnOk result (Given circuit.now inputs.now) }

@@ -2,7 +2,7 @@
 // The first refusal that applies is given.
 ghost use Rattle.std.specs.Prelude.{◌≡◌, ◌≤◌, true, length, MatchResult, OnOk};
 ghost use Rattle.arithmetic.specs.Numbers.{modulo, all_reduced};
-ghost use Rattle.circuits.specs.Refusals.{number_of};
+ghost use Rattle.refusals.specs.Refusals.{number_of};
 ghost use Rattle.circuits.specs.Words.{modulus, circuit_of, is_circuit};
 ghost use Rattle.argument.specs.Argument.{first_coins};
 ghost use Rattle.verdicts.specs.Machine.{start};
@@ -10,7 +10,8 @@ ghost use Rattle.verifier.specs.Meaning.{stand_of, inputs_of};
 ghost use Rattle.programs.specs.Held.{held_verdict, Held};
 
 use arithmetic::mersenne::Mersenne31;
-use circuits::{CircuitView, Refusal, check_circuit, check_counts, check_reduced};
+use circuits::{CircuitView, check_circuit, check_counts, check_reduced};
+use refusals::Refusal;
 use verifier::verifier::Verifier;
 
 pub fn check_held(circuit: &[u32], inputs: &[u32], claimed: &[u32]) -> Result<(), Refusal>

@@ -7,7 +7,7 @@ ghost use Rattle.texts.specs.Texts.{numbers_of};
 
 use arithmetic::mersenne::Mersenne31;
 use arithmetic::modular::Modular;
-use circuits::Refusal;
+use refusals::Refusal;
 use texts::whole::read_into;
 
 pub fn one_number(text: &[u8]) -> Result<u32, Refusal>

@@ -3,9 +3,10 @@
 ghost use Rattle.std.specs.Prelude.{◌≡◌, ◌+◌, ◌^◌, true, false, MatchResult};
 ghost use Rattle.circuits.specs.Circuit.{output_size};
 ghost use Rattle.circuits.specs.Words.{circuit_of, is_circuit};
-ghost use Rattle.circuits.specs.Refusals.{number_of};
+ghost use Rattle.refusals.specs.Refusals.{number_of};
 
-use circuits::{CircuitView, Refusal, check_circuit};
+use circuits::{CircuitView, check_circuit};
+use refusals::Refusal;
 
 pub fn outputs_len(circuit: &[u32]) -> Result<usize, Refusal>
     ensures { MatchResult result (λ n. n ≡ 2 ^ ((circuit_of circuit.now).copies + output_size (circuit_of circuit.now))) (λ e. (number_of e ≡ 1) × (is_circuit circuit.now ≡ false)) }

@@ -3,17 +3,18 @@
 ghost use Rattle.std.specs.Prelude.{◌≡◌, ◌+◌, ◌^◌, ◌&&◌, length, replicate, MatchResult, ◌==◌};
 ghost use Rattle.argument.specs.Argument.{coins_of};
 ghost use Rattle.argument.specs.Transcript.{answer_words, prove_verdict};
-ghost use Rattle.circuits.specs.Refusals.{RefusedUnless, number_of};
+ghost use Rattle.refusals.specs.Refusals.{RefusedUnless, number_of};
 ghost use Rattle.circuits.specs.Views.{circuit_seen, words_seen};
 ghost use Rattle.proving.specs.Proves.{Ready, Answered};
 
 use crate::speaking::answer_all;
 use arithmetic::mersenne::Mersenne31;
-use circuits::{CircuitView, Refusal, check_circuit, check_reduced};
+use circuits::{CircuitView, check_circuit, check_reduced};
 use fronts::fronts::clear;
 use judging::checks::{check_lengths, first_coins};
 use prover::hearing::begin;
 use prover::opening::open;
+use refusals::Refusal;
 
 // so many words are lent to work in: four quarters
 const WORK: usize = 262144;

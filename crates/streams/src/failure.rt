@@ -1,11 +1,11 @@
 // Why a program ends with status 1, and what it says then.
 // A refusal is printed on standard output, as `no 3`; all else on standard error.
 ghost use Rattle.std.specs.Prelude.{◌≡◌, true, false, is_err, OnOk};
-ghost use Rattle.circuits.specs.Refusals.{number_of};
+ghost use Rattle.refusals.specs.Refusals.{number_of};
 ghost use Rattle.streams.specs.Failures.{IsSystem};
 ghost use Rattle.streams.specs.declared.failure.Failure.TheVariants.{Refused, System};
 
-use circuits::Refusal;
+use refusals::Refusal;
 use std::alloc::AllocError;
 use std::io;
 

@@ -4,7 +4,7 @@ ghost use Rattle.std.specs.Prelude.{IfErr};
 ghost use Rattle.streams.specs.Failures.{RefusedBy, TextFailed};
 
 use crate::failure::{Failure, refused};
-use circuits::Refusal;
+use refusals::Refusal;
 use std::{fs, io};
 use texts::error::TextError;
 use texts::whole::read_numbers;

@@ -6,9 +6,9 @@ ghost use Rattle.programs.specs.Scanning.{at_end};
 ghost use Rattle.streams.specs.Failures.{IsSystem, RefusedBy};
 
 use crate::failure::{Failure, refused};
-use circuits::Refusal;
 use programs::drawn::Drawn;
 use programs::scanner::{Scanned, Spot};
+use refusals::Refusal;
 use std::fs::File;
 use std::io::Read;
 use std::{fs, io};

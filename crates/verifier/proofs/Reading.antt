@@ -5,8 +5,8 @@ use Rattle.std.proofs.lemmas.Bool.{and_from, and_parts, eq-eqb, eqb-true, falseâ
 use Rattle.arithmetic.specs.Numbers.{all_reduced}
 use Rattle.arithmetic.proofs.Newton.{reduced_at}
 use Rattle.arithmetic.proofs.Truth.{T_of_path}
-use Rattle.circuits.specs.declared.refusal.Refusal.{Refusal}
-use Rattle.circuits.specs.Refusals.{RefusedUnless}
+use Rattle.refusals.specs.declared.Refusal.{Refusal}
+use Rattle.refusals.specs.Refusals.{RefusedUnless}
 use Rattle.circuits.specs.Words.{modulus}
 use Rattle.argument.specs.Sumcheck.{well_formed}
 use Rattle.claims.specs.Meaning.{numbers}

@@ -2,14 +2,14 @@
 // A check of the words is the only way to a view of one.
 ghost use Rattle.std.specs.Prelude.{◌≡◌, ◌+◌, ◌^◌, ◌≤◌, true};
 ghost use Rattle.circuits.specs.Circuit.{output_size};
-ghost use Rattle.circuits.specs.Refusals.{RefusedUnless};
+ghost use Rattle.refusals.specs.Refusals.{RefusedUnless};
 ghost use Rattle.circuits.specs.Views.{words_seen, circuit_seen, layers_seen, copies_above, inputs_below};
 ghost use Rattle.circuits.specs.Words.{is_circuit};
 
 use super::{CircuitView, LayersView};
 use crate::places::layers_fit;
-use crate::refusal::Refusal;
 use crate::shape::{MOST_BITS, is_shaped, power};
+use refusals::Refusal;
 
 const MOST_WORDS: usize = 524288;
 

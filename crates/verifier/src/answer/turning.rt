@@ -4,10 +4,10 @@ ghost use Rattle.std.specs.Prelude.{◌≡◌, ◌<◌, ◌≤◌, MatchResult};
 ghost use Rattle.circuits.specs.Words.{modulus};
 ghost use Rattle.verifier.specs.Answers.{numbers_seen, answer_seen, coin_answer, coin_word};
 
+use refusals::Refusal;
 use super::{Answer, Coin, Numbers};
 use arithmetic::mersenne::Mersenne31;
 use arithmetic::modular::Modular;
-use circuits::Refusal;
 
 impl Answer {
     // Only the verifier makes an answer, of numbers that it has found to fit.

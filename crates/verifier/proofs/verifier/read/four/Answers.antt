@@ -1,7 +1,7 @@
 -- The numbers are as many as said, and the check let them pass.
 use Rattle.std.proofs.Common.{◌≡◌, true, length, sym, ◌∙◌, arith}
 use Rattle.arithmetic.specs.Numbers.{all_reduced}
-use Rattle.circuits.specs.declared.refusal.Refusal.TheVariants.{NotReduced}
+use Rattle.refusals.specs.declared.Refusal.TheVariants.{NotReduced}
 use Rattle.claims.specs.Meaning.{numbers}
 use Rattle.arithmetic.proofs.Newton.{four_places}
 use Rattle.verifier.proofs.Reading.{ok_passes, formed}

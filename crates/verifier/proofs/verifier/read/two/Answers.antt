@@ -1,7 +1,7 @@
 -- The numbers are as many as said, and the check let them pass.
 use Rattle.std.proofs.Common.{◌≡◌, true, length, sym, ◌∙◌, arith}
 use Rattle.arithmetic.specs.Numbers.{all_reduced}
-use Rattle.circuits.specs.declared.refusal.Refusal.TheVariants.{NotReduced}
+use Rattle.refusals.specs.declared.Refusal.TheVariants.{NotReduced}
 use Rattle.claims.specs.Meaning.{numbers}
 use Rattle.verifier.proofs.Reading.{ok_passes, formed, two_places}
 use Rattle.verifier.proofs.verifier.read.two.Goals as goal

@@ -1,8 +1,8 @@
 -- The number of each refusal, by which callers and programs know it.
 -- No refusal is 0.
 use Rattle.std.specs.Prelude.{◌≡◌, ℕ, Bool, true, false, Ok, Err, Result}
-use Rattle.circuits.specs.declared.refusal.Refusal.{Refusal}
-use Rattle.circuits.specs.declared.refusal.Refusal.TheVariants.{NoCircuit, WrongCount, NotReduced, NotBelieved, UnknownForm}
+use Rattle.refusals.specs.declared.Refusal.{Refusal}
+use Rattle.refusals.specs.declared.Refusal.TheVariants.{NoCircuit, WrongCount, NotReduced, NotBelieved, UnknownForm}
 
 abbrev pub number_of : Refusal → ℕ
 number_of NoCircuit = 1
