@@ -4,32 +4,19 @@ ghost use Rattle.arithmetic.specs.Theorems.{ThroughItsValues, ExactForCubics, Ag
 
 // The polynomial takes its four values at 0, 1, 2 and 3, and is every cubic's own; two different ones agree at most at
 // three places.
-pub fn cubics_stand() -> u8
+pub fn cubics_stand()
     ensures through { ThroughItsValues }
     ensures exact { ExactForCubics }
     ensures thrice { AgreeAtMostThrice }
-{
-    0
-}
+{}
 
-// 2^31 - 1 is whole, so that all that is promised for whole moduli holds of it.
-pub fn mersenne_stands() -> u8
-    ensures { WholeMersenne31 }
-{
-    0
-}
-
-// The same; and so are the moduli of examples.
-pub fn moduli_stand() -> u8
+// 2^31 - 1 is whole, so that all that is promised for whole moduli holds of it; and so are the moduli of examples.
+pub fn moduli_stand()
     ensures program { WholeMersenne31 }
     ensures examples { WholeExamples }
-{
-    0
-}
+{}
 
 // Modulo 31 the polynomial through 1, 4, 9, 16 has the value 25 at 4 and 0 at 30.
-pub fn example_stands() -> u8
+pub fn example_stands()
     ensures { ExampleModulo31 }
-{
-    0
-}
+{}
