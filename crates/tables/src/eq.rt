@@ -38,6 +38,7 @@ fn split_first<M: Modular>(table: &mut [u32], r: u32)
     requires r_below { r < M.modulus }
     ensures { table.new ≡ split_first (modulo M.modulus) r (take (length table.old / 2) table.old) }
 {
+    // By `enumerate`: no contract says what a zip of two `iter_mut` leaves in its slices.
     let half = table.len() / 2;
     let (low, high) = table.split_at_mut(half);
     for (i, e) in low.iter_mut().enumerate() {
