@@ -1,5 +1,6 @@
 pub mod AlongPlaces
 pub mod CopyRound
+pub mod FourSteps
 pub mod RowSteps
 pub mod RoundSums
 pub mod RoundSteps

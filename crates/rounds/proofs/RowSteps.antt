@@ -9,63 +9,13 @@ use Rattle.arithmetic.proofs.Modulo.{ring_modulo}
 use Rattle.argument.specs.Sumcheck.{four_values}
 use Rattle.argument.proofs.Copies.{Reads}
 use Rattle.circuits.specs.Circuit.{Gate, gates_fit}
-use Rattle.tables.specs.InPlace.{on_line}
 use Rattle.tables.specs.Multilinear.{sum_corners}
 use Rattle.tables.proofs.ReducedLists.{reduced_take, reduced_drop}
 use Rattle.rounds.specs.Fours.{FourOf}
 use Rattle.rounds.specs.Phases.{copy_sum}
-use Rattle.rounds.specs.Rounds.{listed, AllBelow}
 use Rattle.rounds.specs.Rows.{row, gate_on_line, row_sum, row_term, rows_sum}
-use Rattle.rounds.specs.declared.rounds.FourNumbers.{FourNumbers}
+use Rattle.rounds.proofs.FourSteps.{four_same}
 use Rattle.rounds.proofs.CopyRound.{copy_round}
-
--- ---- four values
-pub all_below : (p : ℕ) (f : ℕ → ℕ) (s : FourNumbers) → FourOf p f s → AllBelow p s
-all_below p f s h = record { below0 = h.below0; below1 = h.below1; below2 = h.below2; below3 = h.below3 }
-
-pub four_same : (p : ℕ) (f h : ℕ → ℕ) (s : FourNumbers) → ((t : ℕ) → f t ≡ h t) → FourOf p f s → FourOf p h s
-four_same p f h s e v =
-    record {
-      value0 = v.value0 ∙ e 0;
-      value1 = v.value1 ∙ e 1;
-      value2 = v.value2 ∙ e 2;
-      value3 = v.value3 ∙ e 3;
-      below0 = v.below0;
-      below1 = v.below1;
-      below2 = v.below2;
-      below3 = v.below3;
-    }
-
-pub four_zeros : (p : ℕ) → 0 < p → (f : ℕ → ℕ) → ((t : ℕ) → f t ≡ 0) → FourOf p f (record { at0 = 0; at1 = 0; at2 = 0; at3 = 0 })
-four_zeros p h f e =
-    record {
-      value0 = sym (e 0);
-      value1 = sym (e 1);
-      value2 = sym (e 2);
-      value3 = sym (e 3);
-      below0 = h;
-      below1 = h;
-      below2 = h;
-      below3 = h;
-    }
-
-pub four_line : (p a b : ℕ) (s : FourNumbers) → listed s ≡ four_values (modulo p) (λ t. on_line (modulo p) t a b) → AllBelow p s →
-    FourOf p (λ t. on_line (modulo p) t a b) s
-four_line p a b s e h =
-    let at : (i : ℕ) → get_or (listed s) i 0 ≡ get_or (four_values (modulo p) (λ t. on_line (modulo p) t a b)) i 0 = λ i. ap (λ (l : List ℕ). get_or l i 0) e in
-    record {
-      value0 = at 0;
-      value1 = at 1;
-      value2 = at 2;
-      value3 = at 3;
-      below0 = h.below0;
-      below1 = h.below1;
-      below2 = h.below2;
-      below3 = h.below3;
-    }
-
-pub four_listed : (p : ℕ) (f : ℕ → ℕ) (s : FourNumbers) → FourOf p f s → listed s ≡ four_values (modulo p) f
-four_listed p f s v = cc (v.value0, v.value1, v.value2, v.value3)
 
 -- ---- one gate more, and one row more
 pub row_more : (p : ℕ) (gs : List Gate) (ws low high : List ℕ) (i : ℕ) (d : Gate) (t : ℕ) → i < length gs → i < length ws →
@@ -105,23 +55,22 @@ gates_read n (g ∷ gs) h =
     let q = and_parts (ltb g.right n) (gates_fit n gs) p.1 in
     (ltb-true g.left n p.0, ltb-true g.right n q.0, gates_read n gs q.1)
 
-pub copies_all : (p : ℕ) → 1 < p → (m : ℕ) (gs : List Gate) (ws e v : List ℕ) (half i : ℕ) (s : FourNumbers) → gates_fit (2 ^ m) gs ≡ true →
+pub copies_all : (p : ℕ) → 1 < p → (m : ℕ) (gs : List Gate) (ws e v : List ℕ) (half i : ℕ) (s : List ℕ) → gates_fit (2 ^ m) gs ≡ true →
     length v ≡ length e * 2 ^ m → half ≡ length e / 2 → i ≡ 0 → FourOf p (rows_sum (modulo p) m gs ws half e v i (half - i)) s →
     (n : ℕ) → length e ≡ 2 ^ suc n →
-    listed s ≡ four_values (modulo p) (λ t. sum_corners (modulo p) n (λ z. copy_sum (modulo p) m gs ws e v (t ∷ z)))
+    s ≡ four_values (modulo p) (λ t. sum_corners (modulo p) n (λ z. copy_sum (modulo p) m gs ws e v (t ∷ z)))
 copies_all p several m gs ws e v half i s fits lv eh ei sums n le =
     let N = modulo p in
     let double : 2 ^ suc n ≡ 2 ^ n + 2 ^ n = two-pow-succ n in
     let middle : half ≡ 2 ^ n = omega arith in
     let long : length v ≡ 2 ^ (suc n + m) = lv ∙ ap (λ (k : ℕ). k * 2 ^ m) le ∙ sym (pow-add 2 (suc n) m) in
     let rest : half - i ≡ 2 ^ n = omega arith in
-    four_listed p (λ t. sum_corners N n (λ z. copy_sum N m gs ws e v (t ∷ z))) s
     (four_same p (rows_sum N m gs ws half e v i (half - i)) (λ t. sum_corners N n (λ z. copy_sum N m gs ws e v (t ∷ z))) s
     (λ t.
     ap₂ (λ (j k : ℕ). rows_sum N m gs ws half e v j k t) ei rest
     ∙ ap (λ (h : ℕ). rows_sum N m gs ws h e v 0 (2 ^ n) t) middle
     ∙ copy_round (ring_modulo p several) n m gs ws e v le long (gates_read (2 ^ m) gs fits) t)
-    sums)
+    sums).values
 
 -- ---- a row lies within the table
 pub row_within : (i rows places total : ℕ) → i < rows → total ≡ rows * places → i * places + places ≤ total

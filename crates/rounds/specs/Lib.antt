@@ -1,4 +1,3 @@
 pub mod Phases
 pub mod Rows
-pub mod Rounds
 pub mod Fours

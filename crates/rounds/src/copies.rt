@@ -8,26 +8,18 @@ ghost use Rattle.circuits.specs.Views.{gate_meant, kind_meant, gates_seen, size_
 ghost use Rattle.tables.specs.Multilinear.{sum_corners};
 ghost use Rattle.rounds.specs.Fours.{FourOf};
 ghost use Rattle.rounds.specs.Phases.{copy_sum};
-ghost use Rattle.rounds.specs.Rounds.{AllBelow};
 ghost use Rattle.rounds.specs.Rows.{gate_on_line, row_sum};
 
 use crate::fours::{add_each, mul_each, scale_each};
-use crate::rounds::{FourNumbers, line_values};
+use crate::rounds::line_values;
 use arithmetic::modular::Modular;
 use circuits::{Gate, Kind, LayerView};
 
-const NO_SUMS: FourNumbers = FourNumbers {
-    at0: 0,
-    at1: 0,
-    at2: 0,
-    at3: 0,
-};
-
-fn combine_each<M: Modular>(kind: Kind, a: FourNumbers, b: FourNumbers) -> FourNumbers
-    requires a { AllBelow M.modulus a }
-    requires b { AllBelow M.modulus b }
+fn combine_each<M: Modular>(kind: Kind, a: [u32; 4], b: [u32; 4]) -> [u32; 4]
+    requires a { T (all_reduced (modulo M.modulus) a) }
+    requires b { T (all_reduced (modulo M.modulus) b) }
     ensures values { (f h : ℕ → ℕ) → FourOf M.modulus f a → FourOf M.modulus h b → FourOf M.modulus (λ t. combined (modulo M.modulus) (kind_meant kind) (f t) (h t)) result }
-    ensures below { AllBelow M.modulus result }
+    ensures below { T (all_reduced (modulo M.modulus) result) }
 {
     match kind {
         Kind::Sum => add_each::<M>(a, b),
@@ -41,16 +33,16 @@ fn add_gate<M: Modular>(
     weight: u32,
     low: &[u32],
     high: &[u32],
-    sums: FourNumbers,
-) -> FourNumbers
+    sums: [u32; 4],
+) -> [u32; 4]
     requires left { (gate.left < length low.now) × (gate.left < length high.now) }
     requires right { (gate.right < length low.now) × (gate.right < length high.now) }
     requires weight { weight < M.modulus }
     requires low { T (all_reduced (modulo M.modulus) low.now) }
     requires high { T (all_reduced (modulo M.modulus) high.now) }
-    requires sums { AllBelow M.modulus sums }
+    requires sums { T (all_reduced (modulo M.modulus) sums) }
     ensures values { (f : ℕ → ℕ) → FourOf M.modulus f sums → FourOf M.modulus (λ t. (modulo M.modulus).add ((modulo M.modulus).mul weight (gate_on_line (modulo M.modulus) (gate_meant gate) low.now high.now t)) (f t)) result }
-    ensures below { AllBelow M.modulus result }
+    ensures below { T (all_reduced (modulo M.modulus) result) }
 {
     let left = line_values::<M>(low[gate.left], high[gate.left]);
     let right = line_values::<M>(low[gate.right], high[gate.right]);
@@ -59,16 +51,17 @@ fn add_gate<M: Modular>(
 }
 
 // The sums over all gates, from the last to the first, over the lines between two rows.
-fn sum_row<M: Modular>(layer: LayerView, weights: &[u32], low: &[u32], high: &[u32]) -> FourNumbers
+fn sum_row<M: Modular>(layer: LayerView, weights: &[u32], low: &[u32], high: &[u32]) -> [u32; 4]
     requires weights { (length weights.now ≡ 2 ^ size_seen layer) × (T (all_reduced (modulo M.modulus) weights.now)) }
     requires low { (length low.now ≡ 2 ^ places_below layer) × (T (all_reduced (modulo M.modulus) low.now)) }
     requires high { (length high.now ≡ 2 ^ places_below layer) × (T (all_reduced (modulo M.modulus) high.now)) }
     ensures values { FourOf M.modulus (row_sum (modulo M.modulus) (gates_seen layer.entry) weights.now low.now high.now) result }
-    ensures below { AllBelow M.modulus result }
+    ensures below { T (all_reduced (modulo M.modulus) result) }
 {
-    let mut sums = NO_SUMS;
+    let mut sums = [0; 4];
     for i in (0..weights.len()).rev() {
-        sums = add_gate::<M>(layer.gate(i), weights[i], low, high, sums);
+        let more = add_gate::<M>(layer.gate(i), weights[i], low, high, sums);
+        sums = more;
     }
     sums
 }
@@ -98,13 +91,14 @@ pub fn sum_copies<M: Modular>(
     ensures reduced { T (all_reduced (modulo M.modulus) result) }
 {
     let half = eq.len() / 2;
-    let mut sums = NO_SUMS;
+    let mut sums = [0; 4];
     for i in (0..half).rev() {
         let low = row_at(values, places, i);
         let high = row_at(values, places, half + i);
         let row = sum_row::<M>(layer, weights, low, high);
         let factors = line_values::<M>(eq[i], eq[half + i]);
-        sums = add_each::<M>(mul_each::<M>(factors, row), sums);
+        let more = add_each::<M>(mul_each::<M>(factors, row), sums);
+        sums = more;
     }
-    [sums.at0, sums.at1, sums.at2, sums.at3]
+    sums
 }

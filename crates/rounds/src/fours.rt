@@ -1,51 +1,42 @@
-// Functions of one variable by their values at 0, 1, 2 and 3: sums, products and multiples, number by number.
-// Four sums that belong together go as one value, so that a loop has one thing to keep.
-ghost use Rattle.std.specs.Prelude.{ℕ, ◌<◌};
-ghost use Rattle.arithmetic.specs.Numbers.{modulo};
-ghost use Rattle.rounds.specs.Fours.{FourOf};
-ghost use Rattle.rounds.specs.Rounds.{AllBelow};
+// Functions of one variable by their values at 0, 1, 2 and 3: sums, products and multiples, value by value.
+// Four sums that belong together go as one array, so that a loop has one thing to keep.
+ghost use Rattle.std.specs.Prelude.{ℕ, ◌<◌, T, slice_index};
+ghost use Rattle.arithmetic.specs.Numbers.{modulo, all_reduced};
+ghost use Rattle.rounds.specs.Fours.{AtEach, FourOf};
 
-use crate::rounds::FourNumbers;
 use arithmetic::modular::Modular;
 
-pub fn add_each<M: Modular>(a: FourNumbers, b: FourNumbers) -> FourNumbers
-    requires a { AllBelow M.modulus a }
-    requires b { AllBelow M.modulus b }
+// Two functions put together by `f`, value by value.
+fn zip_with<F: Fn(u32, u32) -> u32>(a: [u32; 4], b: [u32; 4], f: F) -> [u32; 4]
+    requires { AtEach (λ i. F.pre f (slice_index a i) (slice_index b i)) }
+    ensures { AtEach (λ i. F.post f (slice_index a i) (slice_index b i) (slice_index result i)) }
+{
+    [f(a[0], b[0]), f(a[1], b[1]), f(a[2], b[2]), f(a[3], b[3])]
+}
+
+pub fn add_each<M: Modular>(a: [u32; 4], b: [u32; 4]) -> [u32; 4]
+    requires a { T (all_reduced (modulo M.modulus) a) }
+    requires b { T (all_reduced (modulo M.modulus) b) }
     ensures values { (f h : ℕ → ℕ) → FourOf M.modulus f a → FourOf M.modulus h b → FourOf M.modulus (λ t. (modulo M.modulus).add (f t) (h t)) result }
-    ensures below { AllBelow M.modulus result }
+    ensures below { T (all_reduced (modulo M.modulus) result) }
 {
-    FourNumbers {
-        at0: M::add(a.at0, b.at0),
-        at1: M::add(a.at1, b.at1),
-        at2: M::add(a.at2, b.at2),
-        at3: M::add(a.at3, b.at3),
-    }
+    zip_with(a, b, |x, y| M::add(x, y))
 }
 
-pub fn mul_each<M: Modular>(a: FourNumbers, b: FourNumbers) -> FourNumbers
-    requires a { AllBelow M.modulus a }
-    requires b { AllBelow M.modulus b }
+pub fn mul_each<M: Modular>(a: [u32; 4], b: [u32; 4]) -> [u32; 4]
+    requires a { T (all_reduced (modulo M.modulus) a) }
+    requires b { T (all_reduced (modulo M.modulus) b) }
     ensures values { (f h : ℕ → ℕ) → FourOf M.modulus f a → FourOf M.modulus h b → FourOf M.modulus (λ t. (modulo M.modulus).mul (f t) (h t)) result }
-    ensures below { AllBelow M.modulus result }
+    ensures below { T (all_reduced (modulo M.modulus) result) }
 {
-    FourNumbers {
-        at0: M::mul(a.at0, b.at0),
-        at1: M::mul(a.at1, b.at1),
-        at2: M::mul(a.at2, b.at2),
-        at3: M::mul(a.at3, b.at3),
-    }
+    zip_with(a, b, |x, y| M::mul(x, y))
 }
 
-pub fn scale_each<M: Modular>(factor: u32, a: FourNumbers) -> FourNumbers
+pub fn scale_each<M: Modular>(factor: u32, a: [u32; 4]) -> [u32; 4]
     requires factor { factor < M.modulus }
-    requires a { AllBelow M.modulus a }
+    requires a { T (all_reduced (modulo M.modulus) a) }
     ensures values { (f : ℕ → ℕ) → FourOf M.modulus f a → FourOf M.modulus (λ t. (modulo M.modulus).mul factor (f t)) result }
-    ensures below { AllBelow M.modulus result }
+    ensures below { T (all_reduced (modulo M.modulus) result) }
 {
-    FourNumbers {
-        at0: M::mul(factor, a.at0),
-        at1: M::mul(factor, a.at1),
-        at2: M::mul(factor, a.at2),
-        at3: M::mul(factor, a.at3),
-    }
+    mul_each::<M>([factor; 4], a)
 }

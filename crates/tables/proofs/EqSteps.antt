@@ -1,12 +1,12 @@
 -- The eq polynomial from the last variable on, and its table over all corners: what stands at each place,
 -- and how one variable more splits each number in two.
-use Rattle.std.proofs.Common.{◌≡◌, ℕ, suc, ◌+◌, ◌-◌, ◌%◌, ◌^◌, ◌<◌, ◌≤◌, T, List, [], ◌∷◌, ◌++◌, map, length, get_or, drop, sym, refl, ap, ◌∙◌, ap₂, mod-lt, mod-eq_of_lt, mul-one, arith, length-append}
+use Rattle.std.proofs.Common.{◌≡◌, ℕ, suc, ◌+◌, ◌-◌, ◌%◌, ◌^◌, ◌<◌, T, ◌⊎◌, ⊎_elim, List, [], ◌∷◌, ◌++◌, map, length, get_or, sym, refl, ap, ◌∙◌, ap₂, mod-lt, mod-eq_of_lt, mul-one, arith, length-append}
 use native.Mathlib.Nat.{mod-mod, two-pow-succ}
 use native.Mathlib.Decide.{dec_lt}
 use lib.ListN.{length-map}
 use Rattle.std.specs.List.{range_with_len}
 use Rattle.std.proofs.lemmas.List.FromFn.{length-map-range_with_len, get_or-map-range_with_len, fill_by_all}
-use Rattle.std.proofs.lemmas.List.{drop_more, drop_all, get_or-map, get_or_append_left, get_or-append_right}
+use Rattle.std.proofs.lemmas.List.{get_or-map, get_or_append_left, get_or-append_right}
 use Rattle.arithmetic.specs.Numbers.{Numbers, modulo, all_reduced}
 use Rattle.arithmetic.proofs.Modulo.{ring_modulo}
 use Rattle.arithmetic.proofs.Ring.{Ring, one-mul}
@@ -14,19 +14,10 @@ use Rattle.arithmetic.proofs.Solver.{var, con, ◌:+◌, ◌:*◌, ◌:-◌, sol
 use Rattle.tables.specs.InPlace.{eq_factor, low_part, high_part, split_first, eq_table, scaled_eq_table}
 use Rattle.tables.specs.Multilinear.{eq_poly, bits_of}
 use Rattle.tables.proofs.Places.{bits_low, bits_high}
-use Rattle.tables.proofs.ReducedLists.{reduced_map}
+use Rattle.tables.proofs.ReducedLists.{reduced_map, reduced_first, reduced_rest}
 
 module _ {K : Type 0} (N : Numbers K) where
   open N use {mul, nat}
-
-  pub eq_none : (i : ℕ) (xs ys : List K) → length xs ≤ i → eq_poly N (drop i xs) (drop i ys) ≡ nat 1
-  unfolding eq_poly
-  eq_none i xs ys h = ap (λ (l : List K). eq_poly N l (drop i ys)) (drop_all i xs h)
-
-  pub eq_more : (d : K) (i : ℕ) (xs ys : List K) → i < length xs → i < length ys →
-      eq_poly N (drop i xs) (drop i ys) ≡ mul (eq_factor N (get_or xs i d) (get_or ys i d)) (eq_poly N (drop (i + 1) xs) (drop (i + 1) ys))
-  unfolding eq_poly
-  eq_more d i xs ys h k = ap₂ (eq_poly N) (drop_more xs i d h) (drop_more ys i d k)
 
   -- the table's length, and its places
   pub scaled_length : (f : K) (z : List K) → length (scaled_eq_table N f z) ≡ 2 ^ length z
@@ -74,7 +65,6 @@ joined_halves {K} d low high h es k e below above = fill_by_all h (map low es ++
 module _ {K : Type 0} {N : Numbers K} (R : Ring N) where
   open N use {reduce, add, sub, mul, nat}
 
-  -- eq at a first coordinate and a corner, by the corner's first bit
   eq_low : (r : K) (z : List K) (j : ℕ) → j < 2 ^ length z →
       eq_poly N (bits_of N (suc (length z)) j) (r ∷ z) ≡ mul (sub (nat 1) r) (eq_poly N (bits_of N (length z) j) z)
   unfolding eq_poly
@@ -137,3 +127,51 @@ module _ (p : ℕ) where
       fill_by_all (λ (place : ℕ). eq_poly (modulo p) (bits_of (modulo p) (length z) place) z)
       (scaled_eq_table (modulo p) 1 z) (2 ^ length z) 0 (scaled_length (modulo p) 1 z)
       (λ j l. scaled_at (modulo p) 1 z j 0 l ∙ one-mul (ring_modulo p h) _ ∙ reduce-eq_poly h _ z)
+
+-- eq of two points xs and ys as a product from the first variable on: with eq of what is left of the two, it is eq of all.
+pub record Multiplied (p : ℕ) (xs ys : List ℕ) (product : ℕ) (left right : List ℕ) : Type 0 where
+  pub below : product < p
+  pub left_reduced : T (all_reduced (modulo p) left)
+  pub right_reduced : T (all_reduced (modulo p) right)
+  pub whole : (modulo p).mul product (eq_poly (modulo p) left right) ≡ eq_poly (modulo p) xs ys
+
+pub multiplied_none : {p : ℕ} → 1 < p → (xs ys left right : List ℕ) → left ≡ xs → right ≡ ys → T (all_reduced (modulo p) xs) → T (all_reduced (modulo p) ys) →
+    Multiplied p xs ys 1 left right
+multiplied_none {p} h xs ys left right l k s t =
+    record {
+      below = h;
+      left_reduced = rw l s;
+      right_reduced = rw k t;
+      whole = one-mul (ring_modulo p h) _ ∙ reduce-eq_poly p h left right ∙ ap₂ (eq_poly (modulo p)) l k;
+    }
+
+module _ {p : ℕ} {xs ys left right left-after right-after : List ℕ} {product r c : ℕ} (m : Multiplied p xs ys product left right)
+    (l : left ≡ r ∷ left-after) (k : right ≡ c ∷ right-after) where
+  pub multiplied_first : (r < p) × (c < p)
+  multiplied_first = (reduced_first p r left-after (rw l at m.left_reduced), reduced_first p c right-after (rw k at m.right_reduced))
+
+  -- the next variable's factor goes from what is left over to the product
+  pub multiplied_more : 1 < p → {factor next : ℕ} → factor ≡ eq_factor (modulo p) r c → next ≡ (modulo p).mul product factor →
+      Multiplied p xs ys next left-after right-after
+  unfolding eq_poly
+  multiplied_more h {factor} {next} e f =
+      record {
+        below = rw f (mod-lt _ (omega arith));
+        left_reduced = reduced_rest p r left-after (rw l at m.left_reduced);
+        right_reduced = reduced_rest p c right-after (rw k at m.right_reduced);
+        whole =
+            ap (λ (n : ℕ). (modulo p).mul n (eq_poly (modulo p) left-after right-after)) (f ∙ ap ((modulo p).mul product) e)
+            ∙ (ring_modulo p h).mul_assoc product (eq_factor (modulo p) r c) (eq_poly (modulo p) left-after right-after)
+            ∙ sym (ap₂ (λ (a b : List ℕ). (modulo p).mul product (eq_poly (modulo p) a b)) l k) ∙ m.whole;
+      }
+
+pub multiplied_all : {p : ℕ} {xs ys left right : List ℕ} {product : ℕ} → Multiplied p xs ys product left right → (left ≡ []) ⊎ (right ≡ []) →
+    product ≡ eq_poly (modulo p) xs ys
+unfolding eq_poly
+multiplied_all {p} {xs} {ys} {left} {right} {product} m end =
+    sym (ap ((modulo p).mul product) (eq_ended left right end) ∙ simp mul-one (mod-eq_of_lt m.below)) ∙ m.whole
+  where
+    eq_ended : (left right : List ℕ) → (left ≡ []) ⊎ (right ≡ []) → eq_poly (modulo p) left right ≡ 1
+    eq_ended [] right end = refl
+    eq_ended (r ∷ left) [] end = refl
+    eq_ended (r ∷ left) (c ∷ right) end = ⊎_elim (λ l. cc) (λ k. cc) end

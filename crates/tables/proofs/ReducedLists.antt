@@ -12,6 +12,14 @@ module _ (p : ℕ) where
   reduced_anywhere h (x ∷ xs) t zero = ltb→lt x p (and_left (ltb x p) (all_reduced (modulo p) xs) t)
   reduced_anywhere h (x ∷ xs) t (suc i) = reduced_anywhere h xs (and_right (ltb x p) (all_reduced (modulo p) xs) t) i
 
+  pub reduced_first : (x : ℕ) (xs : List ℕ) → T (all_reduced (modulo p) (x ∷ xs)) → x < p
+  unfolding all_reduced
+  reduced_first x xs t = ltb→lt x p (and_left (ltb x p) (all_reduced (modulo p) xs) t)
+
+  pub reduced_rest : (x : ℕ) (xs : List ℕ) → T (all_reduced (modulo p) (x ∷ xs)) → T (all_reduced (modulo p) xs)
+  unfolding all_reduced
+  reduced_rest x xs t = and_right (ltb x p) (all_reduced (modulo p) xs) t
+
   pub reduced_from : (xs : List ℕ) → ((i : ℕ) → i < length xs → get_or xs i 0 < p) → T (all_reduced (modulo p) xs)
   unfolding all_reduced
   reduced_from [] h = tt

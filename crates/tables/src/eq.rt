@@ -25,8 +25,8 @@ pub fn eq_at<M: Modular>(a: &[u32], b: &[u32]) -> u32
     ensures below { result < M.modulus }
 {
     let mut product = 1;
-    for i in (0..a.len()).rev() {
-        product = M::mul(eq_factor::<M>(a[i], b[i]), product);
+    for (r, c) in a.iter().zip(b) {
+        product = M::mul(product, eq_factor::<M>(*r, *c));
     }
     product
 }
@@ -38,12 +38,13 @@ fn split_first<M: Modular>(table: &mut [u32], r: u32)
     requires r_below { r < M.modulus }
     ensures { table.new ≡ split_first (modulo M.modulus) r (take (length table.old / 2) table.old) }
 {
+    // By `enumerate`: no contract says what a zip of two `iter_mut` leaves in its slices.
     let half = table.len() / 2;
-    for i in 0..half {
-        let whole = table[i];
-        let high = M::mul(whole, r);
-        table[half + i] = high;
-        table[i] = M::sub(whole, high);
+    let (low, high) = table.split_at_mut(half);
+    for (i, e) in low.iter_mut().enumerate() {
+        let part = M::mul(*e, r);
+        high[i] = part;
+        *e = M::sub(*e, part);
     }
 }
 
@@ -58,9 +59,9 @@ pub fn eq_table_scaled<M: Modular>(factor: u32, point: &[u32], out: &mut [u32])
 {
     out[0] = factor;
     let mut len = 1;
-    for done in 0..point.len() {
+    for r in point.iter().rev() {
         len *= 2;
-        split_first::<M>(&mut out[0..len], point[point.len() - 1 - done]);
+        split_first::<M>(&mut out[..len], *r);
     }
 }
 

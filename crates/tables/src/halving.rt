@@ -24,6 +24,7 @@ pub fn fix_first<M: Modular>(table: &mut [u32], r: u32)
     ensures words { table.new ≡ fix_first (modulo M.modulus) r table.old ++ drop (length table.old / 2) table.old }
     ensures reduced { T (all_reduced (modulo M.modulus) table.new) }
 {
+    // By index: the table is halved in its own first half, and each turn reads it at two places, half of it apart.
     let half = table.len() / 2;
     for i in 0..half {
         table[i] = at_line::<M>(table[i], table[half + i], r);
@@ -41,8 +42,8 @@ pub fn mle_at<M: Modular>(table: &mut [u32], point: &[u32]) -> u32
     ensures reduced { T (all_reduced (modulo M.modulus) table.new) }
 {
     let mut len = table.len();
-    for i in 0..point.len() {
-        fix_first::<M>(&mut table[0..len], point[i]);
+    for r in point {
+        fix_first::<M>(&mut table[..len], *r);
         len /= 2;
     }
     table[0]

@@ -1,6 +1,5 @@
 -- Each of the four sums grows by the gate's value at the same place of its two lines.
 use Rattle.arithmetic.proofs.Newton.{reduced_at}
-use Rattle.rounds.proofs.RowSteps.{four_line}
 use Rattle.rounds.proofs.copies.add_gate.Goals as goal
 
 pub line_values-left-requires : goal.line_values-left-requires
@@ -15,10 +14,10 @@ line_values-right-requires g c =
 
 pub returns : goal.returns
 returns g c =
-    let p = g.M.Modular.modulus in
-    let left = four_line p _ _ c.line_values-left.result c.line_values-left.ensures.values c.line_values-left.ensures.below in
-    let right = four_line p _ _ c.line_values-right.result c.line_values-right.ensures.values c.line_values-right.ensures.below in
+    let left = c.line_values-left.ensures in
+    let right = c.line_values-right.ensures in
+    let value = c.combine_each-value.ensures.values _ _ (record { values = left.values; below = left.below }) (record { values = right.values; below = right.below }) in
     record {
-      values = λ f sums. c.add_each.ensures.values _ f (c.scale_each.ensures.values _ (c.combine_each-value.ensures.values _ _ left right)) sums;
+      values = λ f sums. c.add_each.ensures.values _ f (c.scale_each.ensures.values _ value) sums;
       below = c.add_each.ensures.below;
     }

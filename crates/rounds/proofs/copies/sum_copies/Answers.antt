@@ -5,8 +5,9 @@ use Rattle.circuits.proofs.Parts.{layer_parts}
 use Rattle.circuits.specs.Views.{gates_seen, places_below, size_seen}
 use Rattle.tables.specs.InPlace.{on_line}
 use Rattle.rounds.specs.Rows.{row, row_sum, rows_sum}
-use Rattle.rounds.proofs.RowSteps.{all_below, four_same, four_zeros, four_line, rows_more, rows_none, row_within, row_read, copies_all}
-use Rattle.rounds.proofs.RoundSteps.{below_reduced, place_below}
+use Rattle.rounds.proofs.FourSteps.{four_same, four_zeros}
+use Rattle.rounds.proofs.RowSteps.{rows_more, rows_none, row_within, row_read, copies_all}
+use Rattle.rounds.proofs.RoundSteps.{place_below}
 use Rattle.rounds.proofs.copies.sum_copies.Goals as goal
 
 pub loop-i-init : goal.loop-i-init
@@ -50,8 +51,8 @@ line_values-factors-requires g c =
 pub mul_each-requires : goal.mul_each-requires
 mul_each-requires g c = record { a = c.line_values-factors.ensures.below; b = c.sum_row-row.ensures.below }
 
-pub add_each-sums-requires : goal.add_each-sums-requires
-add_each-sums-requires g c = record { a = c.mul_each.ensures.below; b = all_below g.M.Modular.modulus _ c.loop-i.sums c.loop-i.invariant }
+pub add_each-more-requires : goal.add_each-more-requires
+add_each-more-requires g c = record { a = c.mul_each.ensures.below; b = c.loop-i.invariant.below }
 
 pub loop-i-preserved : goal.loop-i-preserved
 loop-i-preserved g c =
@@ -65,15 +66,15 @@ loop-i-preserved g c =
     let half : ℕ = length es / 2 in
     let i : ℕ = c.loop-i.i - 1 in
     let after : c.loop-i.i ≡ i + 1 = omega arith in
-    let line = four_line p _ _ c.line_values-factors.result c.line_values-factors.ensures.values c.line_values-factors.ensures.below in
+    let factors = c.line_values-factors.ensures in
     let low : c.row_at-low.result.now ≡ row m i v = c.row_at-low.ensures ∙ ap (λ (k : ℕ). take k (drop (i * k) v)) c.requires.places in
     let high : c.row_at-high.result.now ≡ row m (half + i) v = c.row_at-high.ensures ∙ ap (λ (k : ℕ). take k (drop ((half + i) * k) v)) c.requires.places in
-    four_same p _ (rows_sum N m gs ws half es v i (half - i)) c.add_each-sums.result
+    four_same p _ (rows_sum N m gs ws half es v i (half - i)) c.add_each-more.result
     (λ t.
     ap₂ (λ (l h : List ℕ). N.add (N.mul (on_line N t (get_or es i 0) (get_or es (half + i) 0)) (row_sum N gs ws l h t)) (rows_sum N m gs ws half es v c.loop-i.i (half - c.loop-i.i) t)) low high
     ∙ ap (λ (k : ℕ). N.add (N.mul (on_line N t (get_or es i 0) (get_or es (half + i) 0)) (row_sum N gs ws (row m i v) (row m (half + i) v) t)) (rows_sum N m gs ws half es v k (half - k) t)) after
     ∙ rows_more p m gs ws half es v i t (omega arith))
-    (c.add_each-sums.ensures.values _ _ (c.mul_each.ensures.values _ _ line c.sum_row-row.ensures.values) c.loop-i.invariant)
+    (c.add_each-more.ensures.values _ _ (c.mul_each.ensures.values _ _ (record { values = factors.values; below = factors.below }) c.sum_row-row.ensures.values) c.loop-i.invariant)
 
 pub returns : goal.returns
 returns g c =
@@ -84,5 +85,5 @@ returns g c =
       values =
           copies_all p several (places_below c.args.layer) (gates_seen c.args.layer) c.args.weights.now c.args.eq.now c.args.values.now
           (length c.args.eq.now / 2) c.loop-i.i c.loop-i.sums layer.fits c.requires.values.0 refl (omega arith) c.loop-i.invariant;
-      reduced = below_reduced p c.loop-i.sums (all_below p _ c.loop-i.sums c.loop-i.invariant);
+      reduced = c.loop-i.invariant.below;
     }

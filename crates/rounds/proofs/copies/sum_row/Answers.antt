@@ -5,7 +5,8 @@ use Rattle.arithmetic.proofs.Newton.{reduced_at}
 use Rattle.circuits.proofs.Steps.{length-gates_of}
 use Rattle.circuits.specs.Views.{gates_seen, size_seen, no_gate}
 use Rattle.rounds.specs.Rows.{gate_on_line, row_sum}
-use Rattle.rounds.proofs.RowSteps.{all_below, four_same, four_zeros, row_more, row_none}
+use Rattle.rounds.proofs.FourSteps.{four_same, four_zeros}
+use Rattle.rounds.proofs.RowSteps.{row_more, row_none}
 use Rattle.rounds.proofs.copies.sum_row.Goals as goal
 
 pub loop-i-init : goal.loop-i-init
@@ -17,8 +18,8 @@ loop-i-init g c =
     four_zeros p (omega (arith, g.met.M.Modular.above)) _
     (λ t. row_none p gs ws c.args.low.now c.args.high.now (length ws) t many)
 
-pub add_gate-sums-requires : goal.add_gate-sums-requires
-add_gate-sums-requires g c =
+pub add_gate-more-requires : goal.add_gate-more-requires
+add_gate-more-requires g c =
     let p = g.M.Modular.modulus in
     let e = c.gate.ensures in
     record {
@@ -27,7 +28,7 @@ add_gate-sums-requires g c =
       weight = reduced_at p c.args.weights.now c.requires.weights.1 (c.loop-i.i - 1) (omega arith);
       low = c.requires.low.1;
       high = c.requires.high.1;
-      sums = all_below p _ c.loop-i.sums c.loop-i.invariant;
+      sums = c.loop-i.invariant.below;
     }
 
 pub loop-i-preserved : goal.loop-i-preserved
@@ -42,9 +43,9 @@ loop-i-preserved g c =
     let after : c.loop-i.i ≡ i + 1 = omega arith in
     let many : length gs ≡ length ws = omega (arith, length-gates_of (2 ^ size_seen c.args.layer) c.args.layer.words.now) in
     let inside : i < length gs = omega arith in
-    four_same p _ (row_sum N (drop i gs) (drop i ws) low high) c.add_gate-sums.result
+    four_same p _ (row_sum N (drop i gs) (drop i ws) low high) c.add_gate-more.result
     (λ t.
     ap (λ gate. N.add (N.mul (get_or ws i 0) (gate_on_line N gate low high t)) (row_sum N (drop c.loop-i.i gs) (drop c.loop-i.i ws) low high t)) c.gate.ensures.value
     ∙ ap (λ (k : ℕ). N.add (N.mul (get_or ws i 0) (gate_on_line N (get_or gs i no_gate) low high t)) (row_sum N (drop k gs) (drop k ws) low high t)) after
     ∙ row_more p gs ws low high i no_gate t inside (omega arith))
-    (c.add_gate-sums.ensures.values _ c.loop-i.invariant)
+    (c.add_gate-more.ensures.values _ c.loop-i.invariant)

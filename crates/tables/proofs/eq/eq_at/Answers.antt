@@ -1,32 +1,25 @@
--- Each turn multiplies by the factor of one variable more, from the last to the first.
-use Rattle.std.proofs.Common.{◌≡◌, ℕ, ◌+◌, ◌-◌, ◌<◌, length, drop, sym, ap, ◌∙◌, arith}
-use Rattle.arithmetic.specs.Numbers.{modulo}
-use Rattle.tables.specs.Multilinear.{eq_poly}
-use Rattle.tables.proofs.EqSteps.{eq_none, eq_more}
-use Rattle.tables.proofs.ReducedLists.{reduced_anywhere}
+-- Each turn multiplies by the factor of one variable more.
+use Rattle.std.proofs.Common.{◌<◌, arith}
+use Rattle.std.proofs.lemmas.Slice.Zip.{Zip-more, either_empty_from_Zip}
+use Rattle.tables.proofs.EqSteps.{multiplied_none, multiplied_first, multiplied_more, multiplied_all}
 use Rattle.tables.proofs.eq.eq_at.Goals as goal
 
-pub loop-i-init : goal.loop-i-init
-loop-i-init g c =
-    let p = g.M.Modular.modulus in
-    (sym (eq_none (modulo p) (length c.args.a.now) c.args.a.now c.args.b.now (omega arith)), omega (arith, g.met.M.Modular.above))
+pub loop-r-init : goal.loop-r-init
+loop-r-init g c =
+    let several : 1 < g.M.Modular.modulus = omega (arith, g.met.M.Modular.above) in
+    multiplied_none several c.args.a.now c.args.b.now _ _ (cc) (cc) c.requires.a_reduced c.requires.b_reduced
 
 pub eq_factor-requires : goal.eq_factor-requires
 eq_factor-requires g c =
-    let p = g.M.Modular.modulus in
-    let positive : 0 < p = omega (arith, g.met.M.Modular.above) in
-    (reduced_anywhere p positive c.args.a.now c.requires.a_reduced _, reduced_anywhere p positive c.args.b.now c.requires.b_reduced _)
+    let (left, right) = Zip-more c.loop-r.r-iterator c.next.new.self c.next.result (c.in-Some.r, c.in-Some.c) c.in-Some.is c.next.ensures.steps in
+    multiplied_first c.loop-r.invariant left right
 
-pub loop-i-preserved : goal.loop-i-preserved
-loop-i-preserved g c =
-    let p = g.M.Modular.modulus in
-    let xs = c.args.a.now in
-    let ys = c.args.b.now in
-    let i : ℕ = c.loop-i.i - 1 in
-    let after : i + 1 ≡ c.loop-i.i = omega arith in
-    let place : i < length xs = omega arith in
-    let more = eq_more (modulo p) 0 i xs ys place (omega arith) in
-    let rest : eq_poly (modulo p) (drop (i + 1) xs) (drop (i + 1) ys) ≡ c.loop-i.product =
-    ap (λ (n : ℕ). eq_poly (modulo p) (drop n xs) (drop n ys)) after ∙ sym c.loop-i.invariant.0
-    in
-    (cc, c.mul-product.ensures.below)
+pub loop-r-preserved : goal.loop-r-preserved
+loop-r-preserved g c =
+    let several : 1 < g.M.Modular.modulus = omega (arith, g.met.M.Modular.above) in
+    let (left, right) = Zip-more c.loop-r.r-iterator c.next.new.self c.next.result (c.in-Some.r, c.in-Some.c) c.in-Some.is c.next.ensures.steps in
+    multiplied_more c.loop-r.invariant left right several c.eq_factor.ensures.value c.mul-product.ensures.value
+
+pub returns-clause-value : goal.returns-clause-value
+returns-clause-value g c =
+    multiplied_all c.loop-r.invariant (either_empty_from_Zip c.loop-r.r-iterator c.next.new.self c.next.result c.in-None.is c.next.ensures.steps)

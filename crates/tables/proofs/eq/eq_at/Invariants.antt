@@ -1,10 +1,9 @@
--- The product so far is eq of what lies from i on.
-use Rattle.std.proofs.Common.{◌≡◌, ◌<◌, drop}
-use Rattle.arithmetic.specs.Numbers.{modulo}
-use Rattle.tables.specs.Multilinear.{eq_poly}
+-- The product so far, times eq of the variables that are left, is eq of all.
+use Rattle.std.specs.Iterator.Adapters.{zip_first, zip_second}
+use Rattle.std.specs.Slice.Iter.{iter_rest}
+use Rattle.tables.proofs.EqSteps.{Multiplied}
 use Rattle.tables.proofs.eq.eq_at.Given as goal
 
-abbrev pub invariant-loop-i : goal.invariant-loop-i
-invariant-loop-i g l =
-    (l.product ≡ eq_poly (modulo g.M.Modular.modulus) (drop l.i l.a) (drop l.i l.b))
-    × (l.product < g.M.Modular.modulus)
+abbrev pub invariant-loop-r : goal.invariant-loop-r
+invariant-loop-r g l =
+    Multiplied g.M.Modular.modulus l.a l.b l.product (iter_rest (zip_first l.r-iterator)) (iter_rest (zip_second l.r-iterator))

@@ -2,5 +2,5 @@
 use Rattle.tables.proofs.HalvingSteps.{Halving}
 use Rattle.tables.proofs.halving.mle_at.Given as goal
 
-abbrev pub invariant-loop-i : goal.invariant-loop-i
-invariant-loop-i g l = Halving g.M.Modular.modulus l.initial.table l.point l.table l.i l.len
+abbrev pub invariant-loop-r : goal.invariant-loop-r
+invariant-loop-r g l = Halving g.M.Modular.modulus l.initial.table l.point l.table l.r-index l.len
