@@ -4,8 +4,7 @@ ghost use Rattle.std.specs.Prelude.{◌≡◌, ◌+◌, ◌*◌, ◌^◌, ◌<�
 ghost use Rattle.circuits.specs.Parts.{layer_length, starts_layer};
 ghost use Rattle.circuits.specs.Words.{kinds_known, shaped};
 
-// copies and places of a layer take at most so many bits together
-pub const MOST_BITS: u32 = 16;
+use crate::limits::MOST_BITS;
 
 // the word of a product; a sum's is 0
 pub const PRODUCT: u32 = 1;

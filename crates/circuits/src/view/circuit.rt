@@ -1,19 +1,16 @@
 // The whole circuit: its numbers, and its layers from the outputs' one down.
 // A check of the words is the only way to a view of one.
-ghost use Rattle.std.specs.Prelude.{◌≡◌, ◌+◌, ◌^◌, ◌≤◌, true};
+ghost use Rattle.std.specs.Prelude.{◌≡◌, ◌+◌, ◌^◌, ◌≤◌, true, IfOk};
 ghost use Rattle.circuits.specs.Circuit.{output_size};
 ghost use Rattle.refusals.specs.Refusals.{RefusedUnless};
 ghost use Rattle.circuits.specs.Views.{words_seen, circuit_seen, layers_seen, copies_above, inputs_below};
 ghost use Rattle.circuits.specs.Words.{is_circuit};
 
 use super::{CircuitView, LayersView};
+use crate::limits::{MOST_BITS, MOST_LAYERS, MOST_WORDS};
 use crate::places::layers_fit;
-use crate::shape::{MOST_BITS, is_shaped, power};
+use crate::shape::{is_shaped, power};
 use refusals::Refusal;
-
-const MOST_WORDS: usize = 524288;
-
-const MOST_LAYERS: u32 = 32;
 
 // copies, inputs and how many layers stand before the layers
 const HEAD: usize = 3;
@@ -41,14 +38,23 @@ fn is_circuit(words: &[u32]) -> bool
 pub fn check_circuit(words: &[u32]) -> Result<(), Refusal>
     ensures { RefusedUnless (is_circuit words.now) Refusal.NoCircuit result }
 {
-    if is_circuit(words) {
-        Ok(())
-    } else {
-        Err(Refusal::NoCircuit)
-    }
+    CircuitView::check(words)?;
+    Ok(())
 }
 
 impl<'a> CircuitView<'a> {
+    // Of the words of a lawful circuit; all others are refused.
+    pub fn check(words: &'a [u32]) -> Result<CircuitView<'a>, Refusal>
+        ensures refused { RefusedUnless (is_circuit words.now) Refusal.NoCircuit result }
+        ensures seen { IfOk result (λ view. words_seen view ≡ words.now) }
+    {
+        if is_circuit(words) {
+            Ok(CircuitView::new(words))
+        } else {
+            Err(Refusal::NoCircuit)
+        }
+    }
+
     // Of words that `check_circuit` has let pass.
     pub fn new(words: &'a [u32]) -> CircuitView<'a>
         requires { is_circuit words.now ≡ true }
