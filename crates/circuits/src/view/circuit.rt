@@ -8,30 +8,28 @@ ghost use Rattle.circuits.specs.Words.{is_circuit};
 
 use super::{CircuitView, LayersView};
 use crate::limits::{MOST_BITS, MOST_LAYERS, MOST_WORDS};
-use crate::places::layers_fit;
-use crate::shape::{is_shaped, power};
+use crate::shape::{Layers, power};
 use refusals::Refusal;
-
-// copies, inputs and how many layers stand before the layers
-const HEAD: usize = 3;
 
 fn is_circuit(words: &[u32]) -> bool
     ensures { result ≡ is_circuit words.now }
 {
-    if words.len() < HEAD || words.len() > MOST_WORDS {
+    if words.len() > MOST_WORDS {
         return false;
     }
-    let copies = words[0];
-    let inputs = words[1];
-    let count = words[2];
+    let Some((&[copies, inputs, count], layers)) = words.split_first_chunk::<3>() else {
+        return false;
+    };
     if copies > MOST_BITS || inputs > MOST_BITS - copies {
         return false;
     }
     if count < 1 || count > MOST_LAYERS {
         return false;
     }
-    let layers = &words[HEAD..];
-    is_shaped(copies, count, layers) && layers_fit(copies, inputs, count, layers)
+    match Layers::check(copies, count, layers) {
+        Some(layers) => layers.fit(inputs),
+        None => false,
+    }
 }
 
 // Refuses all words but those of a lawful circuit.
@@ -99,12 +97,12 @@ impl<'a> CircuitView<'a> {
         ensures copies { copies_above result ≡ (circuit_seen self.entry).copies }
         ensures inputs { inputs_below result ≡ (circuit_seen self.entry).inputs }
     {
-        let words = self.words;
+        let (&[copies, inputs, count], words) = self.words.split_first_chunk::<3>().unwrap();
         LayersView {
-            copies: words[0],
-            inputs: words[1],
-            count: words[2],
-            words: &words[HEAD..],
+            copies,
+            inputs,
+            count,
+            words,
         }
     }
 }
