@@ -1,13 +1,16 @@
 -- What the tests on words say of them, in parts: of a circuit, of layers from one of them down, and of a layer.
 -- With them, what the parts of a lawful circuit are again.
-use Rattle.std.proofs.Common.{◌≡◌, ℕ, zero, suc, ◌+◌, ◌-◌, ◌*◌, ◌^◌, ◌<◌, ◌≤◌, true, ◌&&◌, eqb, ltb, leb, List, [], ◌∷◌, length, get_or, take, drop, sym, refl, ap, ◌∙◌, ap₂, arith}
-use native.Mathlib.Nat.{sub-zero}
-use Rattle.std.proofs.lemmas.List.{drop_more, get_or-drop}
+use Rattle.std.proofs.Common.{◌≡◌, ℕ, zero, suc, ◌+◌, ◌*◌, ◌^◌, ◌<◌, ◌≤◌, true, ◌&&◌, eqb, ltb, leb, List, [], ◌∷◌, length, get_or, take, drop, sym, refl, ap, ◌∙◌, ap₂, arith}
+use Rattle.std.proofs.lemmas.List.{drop_more, get_or-drop, get_or-take}
 use Rattle.std.proofs.lemmas.Bool.{leb-true, le-leb, ltb-true, eqb-true, eq-eqb, and_parts, and_from}
-use Rattle.circuits.specs.Circuit.{Gate, Layer, gates_fit, layers_fit, size_below}
+use Rattle.circuits.specs.Circuit.{Gate, gates_fit, layers_fit, size_below}
 use Rattle.circuits.specs.Words.{word, gates_of, layers_of, shaped, is_circuit}
 use Rattle.circuits.specs.Parts.{are_layers, is_layer, layer_length, gate_at}
+use Rattle.circuits.specs.Circuit as circuit
 use Rattle.circuits.specs.Views.{no_layer}
+use Rattle.circuits.specs.Split.{SplitOff}
+use Rattle.circuits.specs.declared.places.Layer.{Layer}
+use Rattle.circuits.specs.declared.shape.Layers.{Layers}
 use Rattle.circuits.proofs.Steps.{layers_more, gates_front, length-layers_of}
 
 pub record LayersParts (copies inputs n : ℕ) (ws : List ℕ) : Type 0 where
@@ -82,28 +85,15 @@ circuit_layers ws h =
     record { limit = leb-true (word ws 0 + word ws 1) 16 r.0; form = u.0; fits = v.1 }
 
 -- the first of some layers, and the others
-pub record FirstFits (inputs n : ℕ) (ws : List ℕ) : Type 0 where
-  pub gates : gates_fit (2 ^ size_below (layers_of (n - 1) (drop (layer_length ws) ws)) inputs) (gates_of (2 ^ word ws 0) (drop 1 ws)) ≡ true
-  pub others : layers_fit (layers_of (n - 1) (drop (layer_length ws) ws)) inputs ≡ true
+pub record FirstFits (inputs m : ℕ) (ws : List ℕ) : Type 0 where
+  pub gates : gates_fit (2 ^ size_below (layers_of m (drop (layer_length ws) ws)) inputs) (gates_of (2 ^ word ws 0) (drop 1 ws)) ≡ true
+  pub others : layers_fit (layers_of m (drop (layer_length ws) ws)) inputs ≡ true
 
-pub first_fits : (inputs n : ℕ) (ws : List ℕ) → 0 < n → layers_fit (layers_of n ws) inputs ≡ true → FirstFits inputs n ws
-first_fits inputs n ws h f =
-    let rest = layers_of (n - 1) (drop (layer_length ws) ws) in
-    let e : layers_fit (layers_of (n - 0) ws) inputs ≡ layers_fit (layers_of n ws) inputs = ap (λ k. layers_fit (layers_of k ws) inputs) (sub-zero n) in
-    let p = and_parts (gates_fit (2 ^ size_below rest inputs) (gates_of (2 ^ word ws 0) (drop 1 ws))) (layers_fit rest inputs) (sym (layers_more n 0 inputs ws h) ∙ e ∙ f) in
+pub first_fits : (inputs n m : ℕ) (ws : List ℕ) → m + 1 ≡ n → layers_fit (layers_of n ws) inputs ≡ true → FirstFits inputs m ws
+first_fits inputs n m ws h f =
+    let rest = layers_of m (drop (layer_length ws) ws) in
+    let p = and_parts (gates_fit (2 ^ size_below rest inputs) (gates_of (2 ^ word ws 0) (drop 1 ws))) (layers_fit rest inputs) (sym (layers_more n m inputs ws h) ∙ f) in
     record { gates = p.0; others = p.1 }
-
-pub first_layer : (n : ℕ) (ws : List ℕ) (d : Layer) → 0 < n → get_or (layers_of n ws) 0 d ≡ record { size = word ws 0; gates = gates_of (2 ^ word ws 0) (drop 1 ws) }
-unfolding layers_of
-first_layer n ws d h =
-    let e : n ≡ suc (n - 1) = omega arith in
-    ap (λ k. get_or (layers_of k ws) 0 d) e
-
-pub rest_layers : (n : ℕ) (ws : List ℕ) → 0 < n → drop 1 (layers_of n ws) ≡ layers_of (n - 1) (drop (layer_length ws) ws)
-unfolding layers_of
-rest_layers n ws h =
-    let e : n ≡ suc (n - 1) = omega arith in
-    ap (λ k. drop 1 (layers_of k ws)) e
 
 -- a gate by its place
 pub get_or-gates_of : (n i : ℕ) (ws : List ℕ) (d : Gate) → i < n → get_or (gates_of n ws) i d ≡ gate_at ws i
@@ -140,31 +130,37 @@ gate_fits p (g ∷ gs) (suc i) d f h =
     let c = gates_fit p gs in
     gate_fits p gs i d (and_parts b c (and_parts a (b && c) f).1).1 (omega arith)
 
--- a first layer that was split off is a layer, and what it left are layers
-module _ (copies inputs n : ℕ) (ws gates rest : List ℕ) (size : ℕ) (some : 0 < n) (parts : LayersParts copies inputs n ws)
-    (eg : gates ≡ take (3 * 2 ^ word ws 0) (drop 1 ws)) (er : rest ≡ drop (layer_length ws) ws) (es : size ≡ word ws 0) where
-  pub split_is_layer : (below : ℕ) → copies + size ≤ 16 → copies + below ≤ 16 → length gates ≡ 3 * 2 ^ size →
-      below ≡ size_below (layers_of (n - 1) rest) inputs → is_layer size below gates ≡ true
-  split_is_layer below ls lb whole eb =
-      let f = first_fits inputs n ws some parts.fits in
-      let g = gates_front (2 ^ word ws 0) (3 * 2 ^ word ws 0) (drop 1 ws) (omega arith) in
-      let t : gates_fit (2 ^ below) (gates_of (2 ^ size) gates) ≡ true = cc f.gates in
-      layer_from size below gates (record { limit = omega arith; limit_below = omega arith; whole = whole; fits = t })
+-- a first layer that was split off is a layer, and those below it are layers
+module _ (copies inputs n : ℕ) (ws : List ℕ) (first : Layer) (below : Layers) (parts : LayersParts copies inputs n ws) (split : SplitOff copies n ws first below) where
+  pub split_is_layer : (top : ℕ) → top ≡ size_below (layers_of below.count below.words.now) inputs → copies + top ≤ 16 → is_layer first.size top first.gates.now ≡ true
+  split_is_layer top et lt =
+      let f = first_fits inputs n below.count ws split.one_less parts.fits in
+      let front = gates_front (2 ^ word ws 0) (3 * 2 ^ word ws 0) (drop 1 ws) (omega arith) in
+      let size = split.size in
+      let gates = split.gates in
+      let rest = split.rest in
+      let t : gates_fit (2 ^ top) (gates_of (2 ^ first.size) first.gates.now) ≡ true = cc f.gates in
+      layer_from first.size top first.gates.now (record { limit = omega (arith, split.limit); limit_below = omega arith; whole = split.whole; fits = t })
 
-  pub split_first : (d : Layer) → record { size = size; gates = gates_of (2 ^ size) gates } ≡ get_or (layers_of n ws) 0 d
-  split_first d =
-      let g = gates_front (2 ^ word ws 0) (3 * 2 ^ word ws 0) (drop 1 ws) (omega arith) in
-      let f = first_layer n ws d some in
-      cc
-
-  pub split_rest : layers_of (n - 1) rest ≡ drop 1 (layers_of n ws)
-  split_rest = ap (layers_of (n - 1)) er ∙ sym (rest_layers n ws some)
-
-  pub split_are_layers : shaped copies (n - 1) rest ≡ true → are_layers copies inputs (n - 1) rest ≡ true
+  pub split_are_layers : shaped below.copies below.count below.words.now ≡ true → are_layers copies inputs below.count below.words.now ≡ true
   split_are_layers s =
-      let f = first_fits inputs n ws some parts.fits in
-      layers_from copies inputs (n - 1) rest
-      (record { limit = parts.limit; form = s; fits = ap (λ r. layers_fit (layers_of (n - 1) r) inputs) er ∙ f.others })
+      let f = first_fits inputs n below.count ws split.one_less parts.fits in
+      layers_from copies inputs below.count below.words.now
+      (record {
+        limit = parts.limit;
+        form = ap (λ k. shaped k below.count below.words.now) (sym split.same_copies) ∙ s;
+        fits = ap (λ r. layers_fit (layers_of below.count r) inputs) split.rest ∙ f.others;
+      })
+
+  pub split_layers : layers_of n ws ≡ record { size = first.size; gates = gates_of (2 ^ first.size) first.gates.now } ∷ layers_of below.count below.words.now
+  unfolding layers_of
+  split_layers =
+      let front = gates_front (2 ^ word ws 0) (3 * 2 ^ word ws 0) (drop 1 ws) (omega arith) in
+      let e : n ≡ suc below.count = omega (arith, split.one_less) in
+      let size = split.size in
+      let gates = split.gates in
+      let rest = split.rest in
+      ap (λ k. layers_of k ws) e ∙ cc
 
 -- of words within the limits, it is left to ask for their shape and for the gates' places
 pub circuit_by : (ws : List ℕ) → 3 ≤ length ws → length ws ≤ 524288 → word ws 0 + word ws 1 ≤ 16 → 1 ≤ word ws 2 → word ws 2 ≤ 32 →
@@ -179,5 +175,9 @@ circuit_by ws l m b c d =
     rw (e1, e2, e3, e4, e5, e6)
 
 -- what `first` and `rest` of some layers show together
-pub parted : (ls rest : List Layer) (l : Layer) → 0 < length ls → l ≡ get_or ls 0 no_layer → rest ≡ drop 1 ls → ls ≡ l ∷ rest
+pub parted : (ls rest : List circuit.Layer) (l : circuit.Layer) → 0 < length ls → l ≡ get_or ls 0 no_layer → rest ≡ drop 1 ls → ls ≡ l ∷ rest
 parted ls rest l some e f = drop_more ls 0 no_layer some ∙ ap₂ (λ x y. x ∷ y) (sym e) (sym f)
+
+-- a word before the layers
+pub head_word : (ws front : List ℕ) (i : ℕ) → front ≡ take 3 ws → i < 3 → get_or front i 0 ≡ word ws i
+head_word ws front i e h = ap (λ xs. get_or xs i 0) e ∙ get_or-take 3 ws i 0 h

@@ -1,56 +1,24 @@
 -- One step of a walk over words: a gate further along a layer, a layer further down a circuit.
 -- Each says what a definition of the specs gives from one place on by what it gives from the next.
-use Rattle.std.proofs.Common.{◌≡◌, ℕ, zero, suc, ◌+◌, ◌-◌, ◌*◌, ◌^◌, ◌<◌, ◌≤◌, Bool, true, false, ◌&&◌, eqb, ltb, leb, List, length, get_or, take, drop, sym, refl, ap, ◌∙◌, ap₂, add-zero, arith}
+use Rattle.std.proofs.Common.{◌≡◌, ℕ, zero, suc, ◌+◌, ◌-◌, ◌*◌, ◌^◌, ◌<◌, ◌≤◌, Bool, true, false, ◌&&◌, eqb, ltb, leb, List, [], length, take, drop, sym, refl, ap, ◌∙◌, ap₂, arith}
 use native.Mathlib.Nat.{sub-zero}
-use Rattle.std.proofs.lemmas.List.{drop-drop, drop-take, get_or-drop, get_or-take}
-use Rattle.std.proofs.lemmas.Bool.{lt-ltb, le-ltb, leb-true, eq-eqb, and_parts, and_left, and_right}
+use Rattle.std.proofs.lemmas.List.{drop-take, get_or-take}
+use Rattle.std.proofs.lemmas.Bool.{leb-true, eq-eqb, and_parts}
 use Rattle.circuits.specs.Circuit.{gates_fit, layers_fit, size_below}
 use Rattle.circuits.specs.Words.{word, gates_of, layers_of, kinds_known, shaped}
 use Rattle.circuits.specs.Parts.{starts_layer, layer_length}
 
--- what stands k words after the start of gate i
-pub at_gate : (ws : List ℕ) (i k : ℕ) → get_or (drop (3 * i) ws) k 0 ≡ get_or ws (3 * i + k) 0
-at_gate ws i k = get_or-drop (3 * i) ws k 0
-
-pub next_gate : (ws : List ℕ) (i : ℕ) → drop 3 (drop (3 * i) ws) ≡ drop (3 * (i + 1)) ws
-next_gate ws i =
-    let e : 3 * i + 3 ≡ 3 * (i + 1) = omega arith in
-    drop-drop 3 (3 * i) ws ∙ ap (λ k. drop k ws) e
-
-pub kinds_more : (n i : ℕ) (ws : List ℕ) → i < n →
-    kinds_known (n - i) (drop (3 * i) ws) ≡ (ltb (get_or ws (3 * i) 0) 2 && kinds_known (n - (i + 1)) (drop (3 * (i + 1)) ws))
+-- the gates' words alone have the same kinds
+pub kinds_front : (n m : ℕ) (ws : List ℕ) → 3 * n ≤ m → kinds_known n (take m ws) ≡ kinds_known n ws
 unfolding kinds_known
-kinds_more n i ws h =
-    let e : n - i ≡ suc (n - (i + 1)) = omega arith in
-    let g : get_or (drop (3 * i) ws) 0 0 ≡ get_or ws (3 * i) 0 = at_gate ws i 0 ∙ ap (λ k. get_or ws k 0) (add-zero (3 * i)) in
-    ap (λ k. kinds_known k (drop (3 * i) ws)) e ∙ ap₂ (λ a b. ltb a 2 && kinds_known (n - (i + 1)) b) g (next_gate ws i)
+kinds_front zero m ws h = refl
+kinds_front (suc n) m ws h =
+    let e : m ≡ 3 + (m - 3) = omega arith in
+    let d : drop 3 (take m ws) ≡ take (m - 3) (drop 3 ws) = ap (λ k. drop 3 (take k ws)) e ∙ drop-take 3 (m - 3) ws in
+    let r : kinds_known n (take (m - 3) (drop 3 ws)) ≡ kinds_known n (drop 3 ws) = kinds_front n (m - 3) (drop 3 ws) (omega arith) in
+    ap₂ (λ w b. ltb w 2 && b) (get_or-take m ws 0 0 (omega arith)) (ap (kinds_known n) d ∙ r)
 
-pub kinds_on : (n i : ℕ) (ws : List ℕ) → i < n → ltb (get_or ws (3 * i) 0) 2 ≡ true → kinds_known (n - i) (drop (3 * i) ws) ≡ kinds_known (n - (i + 1)) (drop (3 * (i + 1)) ws)
-kinds_on n i ws h k =
-    kinds_more n i ws h
-    ∙ ap (λ b. b && kinds_known (n - (i + 1)) (drop (3 * (i + 1)) ws)) k
-
-pub kinds_off : (n i : ℕ) (ws : List ℕ) → i < n → ltb (get_or ws (3 * i) 0) 2 ≡ false → kinds_known (n - i) (drop (3 * i) ws) ≡ false
-kinds_off n i ws h k =
-    kinds_more n i ws h
-    ∙ ap (λ b. b && kinds_known (n - (i + 1)) (drop (3 * (i + 1)) ws)) k
-
-pub kinds_all : (n i : ℕ) (ws : List ℕ) → n ≤ i → kinds_known (n - i) ws ≡ true
-unfolding kinds_known
-kinds_all n i ws h =
-    let e : n - i ≡ 0 = omega arith in
-    ap (λ k. kinds_known k ws) e
-
-pub fits_more : (p n i : ℕ) (ws : List ℕ) → i < n →
-    gates_fit p (gates_of (n - i) (drop (3 * i) ws)) ≡ (ltb (get_or ws (3 * i + 1) 0) p && (ltb (get_or ws (3 * i + 2) 0) p && gates_fit p (gates_of (n - (i + 1)) (drop (3 * (i + 1)) ws))))
-unfolding gates_fit gates_of
-fits_more p n i ws h =
-    let e : n - i ≡ suc (n - (i + 1)) = omega arith in
-    ap (λ k. gates_fit p (gates_of k (drop (3 * i) ws))) e
-    ∙ ap₂ (λ a b. ltb a p && (ltb b p && gates_fit p (gates_of (n - (i + 1)) (drop 3 (drop (3 * i) ws))))) (at_gate ws i 1) (at_gate ws i 2)
-    ∙ ap (λ b. ltb (get_or ws (3 * i + 1) 0) p && (ltb (get_or ws (3 * i + 2) 0) p && gates_fit p (gates_of (n - (i + 1)) b))) (next_gate ws i)
-
-and_regroup : (a b c : Bool) → (a && (b && c)) ≡ ((a && b) && c)
+pub and_regroup : (a b c : Bool) → (a && (b && c)) ≡ ((a && b) && c)
 and_regroup true b c = refl
 and_regroup false b c = refl
 
@@ -124,44 +92,6 @@ gates_front (suc n) m ws h =
     let r : gates_of n (take (m - 3) (drop 3 ws)) ≡ gates_of n (drop 3 ws) = gates_front n (m - 3) (drop 3 ws) (omega arith) in
     cc (get_or-take m ws 0 0 a, get_or-take m ws 1 0 b, get_or-take m ws 2 0 c, ap (gates_of n) d)
 
-pub layers_more : (n i inputs : ℕ) (ws : List ℕ) → i < n →
-    layers_fit (layers_of (n - i) ws) inputs ≡ (gates_fit (2 ^ size_below (layers_of (n - (i + 1)) (drop (layer_length ws) ws)) inputs) (gates_of (2 ^ word ws 0) (drop 1 ws)) && layers_fit (layers_of (n - (i + 1)) (drop (layer_length ws) ws)) inputs)
-unfolding layers_fit layers_of
-layers_more n i inputs ws h =
-    let e : n - i ≡ suc (n - (i + 1)) = omega arith in
-    let ls = layers_of (n - (i + 1)) (drop (layer_length ws) ws) in
-    let gs = gates_of (2 ^ word ws 0) (drop 1 ws) in
-    ap (λ k. layers_fit (layers_of k ws) inputs) e
-    ∙ ap (λ b. b && (gates_fit (2 ^ size_below ls inputs) gs && layers_fit ls inputs)) (eq-eqb (length gs) (2 ^ word ws 0) (length-gates_of (2 ^ word ws 0) (drop 1 ws)))
-
-pub layers_all : (n i inputs : ℕ) (ws : List ℕ) → n ≤ i → layers_fit (layers_of (n - i) ws) inputs ≡ true
-unfolding layers_fit layers_of
-layers_all n i inputs ws h =
-    let e : n - i ≡ 0 = omega arith in
-    ap (λ k. layers_fit (layers_of k ws) inputs) e
-
-pub fits_on : (p n i : ℕ) (ws : List ℕ) → i < n → get_or ws (3 * i + 1) 0 < p → get_or ws (3 * i + 2) 0 < p → gates_fit p (gates_of (n - i) (drop (3 * i) ws)) ≡ gates_fit p (gates_of (n - (i + 1)) (drop (3 * (i + 1)) ws))
-fits_on p n i ws h k l =
-    let g = gates_fit p (gates_of (n - (i + 1)) (drop (3 * (i + 1)) ws)) in
-    fits_more p n i ws h ∙ ap₂ (λ a b. a && (b && g)) (lt-ltb (get_or ws (3 * i + 1) 0) p k) (lt-ltb (get_or ws (3 * i + 2) 0) p l)
-
-pub fits_off_left : (p n i : ℕ) (ws : List ℕ) → i < n → p ≤ get_or ws (3 * i + 1) 0 → gates_fit p (gates_of (n - i) (drop (3 * i) ws)) ≡ false
-fits_off_left p n i ws h k =
-    let g = gates_fit p (gates_of (n - (i + 1)) (drop (3 * (i + 1)) ws)) in
-    fits_more p n i ws h ∙ and_left (ltb (get_or ws (3 * i + 1) 0) p) (ltb (get_or ws (3 * i + 2) 0) p && g) (le-ltb (get_or ws (3 * i + 1) 0) p k)
-
-pub fits_off_right : (p n i : ℕ) (ws : List ℕ) → i < n → p ≤ get_or ws (3 * i + 2) 0 → gates_fit p (gates_of (n - i) (drop (3 * i) ws)) ≡ false
-fits_off_right p n i ws h k =
-    let g = gates_fit p (gates_of (n - (i + 1)) (drop (3 * (i + 1)) ws)) in
-    let b = ltb (get_or ws (3 * i + 2) 0) p in
-    fits_more p n i ws h ∙ and_right (ltb (get_or ws (3 * i + 1) 0) p) (b && g) (and_left b g (le-ltb (get_or ws (3 * i + 2) 0) p k))
-
-pub fits_all : (p n i : ℕ) (ws : List ℕ) → n ≤ i → gates_fit p (gates_of (n - i) ws) ≡ true
-unfolding gates_fit gates_of
-fits_all p n i ws h =
-    let e : n - i ≡ 0 = omega arith in
-    ap (λ k. gates_fit p (gates_of k ws)) e
-
 pub top_none : (n inputs : ℕ) (ws : List ℕ) → n ≡ 0 → size_below (layers_of n ws) inputs ≡ inputs
 unfolding layers_of
 top_none n inputs ws e = ap (λ k. size_below (layers_of k ws) inputs) e
@@ -172,13 +102,20 @@ top_some n inputs ws h =
     let e : n ≡ suc (n - 1) = omega arith in
     ap (λ k. size_below (layers_of k ws) inputs) e
 
--- the same, of a first layer that was split off and looked at by itself
-pub layers_split : (n i inputs : ℕ) (ws gates rest : List ℕ) (size below places count : ℕ) (b : Bool) → i < n →
-    gates ≡ take (3 * 2 ^ word ws 0) (drop 1 ws) → rest ≡ drop (layer_length ws) ws → size ≡ word ws 0 →
-    below ≡ size_below (layers_of (n - i - 1) rest) inputs → places ≡ 2 ^ below → count ≡ 2 ^ size → b ≡ gates_fit places (gates_of count gates) →
-    layers_fit (layers_of (n - i) ws) inputs ≡ (b && layers_fit (layers_of (n - (i + 1)) rest) inputs)
-layers_split n i inputs ws gates rest size below places count b h eg er es eb ep ec ef =
-    let e : n - i - 1 ≡ n - (i + 1) = omega arith in
-    let g = gates_front (2 ^ word ws 0) (3 * 2 ^ word ws 0) (drop 1 ws) (omega arith) in
-    let m = layers_more n i inputs ws h in
-    cc
+pub layers_none : (n : ℕ) (ws : List ℕ) → n ≡ 0 → layers_of n ws ≡ []
+unfolding layers_of
+layers_none n ws e = ap (λ k. layers_of k ws) e
+
+pub layers_fit_none : (n inputs : ℕ) (ws : List ℕ) → n ≡ 0 → layers_fit (layers_of n ws) inputs ≡ true
+unfolding layers_fit
+layers_fit_none n inputs ws e = ap (λ ls. layers_fit ls inputs) (layers_none n ws e)
+
+pub layers_more : (n m inputs : ℕ) (ws : List ℕ) → m + 1 ≡ n →
+    layers_fit (layers_of n ws) inputs ≡ (gates_fit (2 ^ size_below (layers_of m (drop (layer_length ws) ws)) inputs) (gates_of (2 ^ word ws 0) (drop 1 ws)) && layers_fit (layers_of m (drop (layer_length ws) ws)) inputs)
+unfolding layers_fit layers_of
+layers_more n m inputs ws h =
+    let e : n ≡ suc m = omega arith in
+    let ls = layers_of m (drop (layer_length ws) ws) in
+    let gs = gates_of (2 ^ word ws 0) (drop 1 ws) in
+    ap (λ k. layers_fit (layers_of k ws) inputs) e
+    ∙ ap (λ b. b && (gates_fit (2 ^ size_below ls inputs) gs && layers_fit ls inputs)) (eq-eqb (length gs) (2 ^ word ws 0) (length-gates_of (2 ^ word ws 0) (drop 1 ws)))

@@ -10,33 +10,27 @@ use crate::view::CircuitView;
 use arithmetic::modular::Modular;
 use refusals::Refusal;
 
+fn refuse_unless(holds: bool, refusal: Refusal) -> Result<(), Refusal>
+    ensures { RefusedUnless holds refusal result }
+{
+    if holds { Ok(()) } else { Err(refusal) }
+}
+
 pub fn check_counts(circuit: CircuitView, inputs: usize, outputs: usize) -> Result<(), Refusal>
     ensures { RefusedUnless (inputs == 2 ^ ((circuit_seen circuit.entry).copies + (circuit_seen circuit.entry).inputs) && outputs == 2 ^ ((circuit_seen circuit.entry).copies + output_size (circuit_seen circuit.entry))) Refusal.WrongCount result }
 {
-    if inputs == circuit.input_count() && outputs == circuit.output_count() {
-        Ok(())
-    } else {
-        Err(Refusal::WrongCount)
-    }
+    let fit = inputs == circuit.input_count() && outputs == circuit.output_count();
+    refuse_unless(fit, Refusal::WrongCount)
 }
 
 fn all_reduced<M: Modular>(words: &[u32]) -> bool
     ensures { result ≡ all_reduced (modulo M.modulus) words.now }
 {
-    for word in words {
-        if !M::is_reduced(*word) {
-            return false;
-        }
-    }
-    true
+    words.iter().all(|word| M::is_reduced(*word))
 }
 
 pub fn check_reduced<M: Modular>(words: &[u32]) -> Result<(), Refusal>
     ensures { RefusedUnless (all_reduced (modulo M.modulus) words.now) Refusal.NotReduced result }
 {
-    if all_reduced::<M>(words) {
-        Ok(())
-    } else {
-        Err(Refusal::NotReduced)
-    }
+    refuse_unless(all_reduced::<M>(words), Refusal::NotReduced)
 }

@@ -5,6 +5,7 @@
 mod checks;
 mod examples;
 mod gate;
+mod limits;
 mod places;
 mod shape;
 mod view;
@@ -12,5 +13,6 @@ mod view;
 pub use checks::{check_counts, check_reduced};
 pub use examples::examples_stand;
 pub use gate::{Gate, Kind};
+pub use limits::MOST_PLACES;
 pub use shape::power;
 pub use view::{CircuitView, LayerView, LayersView, check_circuit};

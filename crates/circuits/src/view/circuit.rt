@@ -1,54 +1,58 @@
 // The whole circuit: its numbers, and its layers from the outputs' one down.
 // A check of the words is the only way to a view of one.
-ghost use Rattle.std.specs.Prelude.{◌≡◌, ◌+◌, ◌^◌, ◌≤◌, true};
+ghost use Rattle.std.specs.Prelude.{◌≡◌, ◌+◌, ◌^◌, ◌≤◌, true, IfOk};
 ghost use Rattle.circuits.specs.Circuit.{output_size};
 ghost use Rattle.refusals.specs.Refusals.{RefusedUnless};
 ghost use Rattle.circuits.specs.Views.{words_seen, circuit_seen, layers_seen, copies_above, inputs_below};
 ghost use Rattle.circuits.specs.Words.{is_circuit};
 
 use super::{CircuitView, LayersView};
-use crate::places::layers_fit;
-use crate::shape::{MOST_BITS, is_shaped, power};
+use crate::limits::{MOST_BITS, MOST_LAYERS, MOST_WORDS};
+use crate::shape::{Layers, power};
 use refusals::Refusal;
-
-const MOST_WORDS: usize = 524288;
-
-const MOST_LAYERS: u32 = 32;
-
-// copies, inputs and how many layers stand before the layers
-const HEAD: usize = 3;
 
 fn is_circuit(words: &[u32]) -> bool
     ensures { result ≡ is_circuit words.now }
 {
-    if words.len() < HEAD || words.len() > MOST_WORDS {
+    if words.len() > MOST_WORDS {
         return false;
     }
-    let copies = words[0];
-    let inputs = words[1];
-    let count = words[2];
+    let Some((&[copies, inputs, count], layers)) = words.split_first_chunk::<3>() else {
+        return false;
+    };
     if copies > MOST_BITS || inputs > MOST_BITS - copies {
         return false;
     }
     if count < 1 || count > MOST_LAYERS {
         return false;
     }
-    let layers = &words[HEAD..];
-    is_shaped(copies, count, layers) && layers_fit(copies, inputs, count, layers)
+    match Layers::check(copies, count, layers) {
+        Some(layers) => layers.fit(inputs),
+        None => false,
+    }
 }
 
 // Refuses all words but those of a lawful circuit.
 pub fn check_circuit(words: &[u32]) -> Result<(), Refusal>
     ensures { RefusedUnless (is_circuit words.now) Refusal.NoCircuit result }
 {
-    if is_circuit(words) {
-        Ok(())
-    } else {
-        Err(Refusal::NoCircuit)
-    }
+    CircuitView::check(words)?;
+    Ok(())
 }
 
 impl<'a> CircuitView<'a> {
+    // Of the words of a lawful circuit; all others are refused.
+    pub fn check(words: &'a [u32]) -> Result<CircuitView<'a>, Refusal>
+        ensures refused { RefusedUnless (is_circuit words.now) Refusal.NoCircuit result }
+        ensures seen { IfOk result (λ view. words_seen view ≡ words.now) }
+    {
+        if is_circuit(words) {
+            Ok(CircuitView::new(words))
+        } else {
+            Err(Refusal::NoCircuit)
+        }
+    }
+
     // Of words that `check_circuit` has let pass.
     pub fn new(words: &'a [u32]) -> CircuitView<'a>
         requires { is_circuit words.now ≡ true }
@@ -93,12 +97,12 @@ impl<'a> CircuitView<'a> {
         ensures copies { copies_above result ≡ (circuit_seen self.entry).copies }
         ensures inputs { inputs_below result ≡ (circuit_seen self.entry).inputs }
     {
-        let words = self.words;
+        let (&[copies, inputs, count], words) = self.words.split_first_chunk::<3>().unwrap();
         LayersView {
-            copies: words[0],
-            inputs: words[1],
-            count: words[2],
-            words: &words[HEAD..],
+            copies,
+            inputs,
+            count,
+            words,
         }
     }
 }

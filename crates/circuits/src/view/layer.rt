@@ -7,14 +7,14 @@ ghost use Rattle.circuits.specs.Words.{kind_of};
 
 use super::LayerView;
 use crate::gate::{Gate, Kind};
-use crate::shape::{PRODUCT, power};
+use crate::shape::power;
 
 // No word but 0 and 1 stands there in a circuit.
 fn kind_of(word: u32) -> Kind
     ensures { kind_meant result ≡ kind_of word }
 {
     match word {
-        PRODUCT => Kind::Product,
+        1 => Kind::Product,
         _ => Kind::Sum,
     }
 }

@@ -1,12 +1,12 @@
 // Layers from one of them down to the inputs.
 // Taking off the first of them again and again walks down a circuit in one pass over its words.
-ghost use Rattle.std.specs.Prelude.{◌≡◌, ◌+◌, ◌*◌, ◌^◌, ◌<◌, ◌≤◌, length, drop, slice_index_or};
+ghost use Rattle.std.specs.Prelude.{◌≡◌, ◌+◌, ◌*◌, ◌^◌, ◌<◌, ◌≤◌, [], length, drop, slice_index_or, MatchOption};
 ghost use Rattle.circuits.specs.Circuit.{size_below};
+ghost use Rattle.circuits.specs.Split.{SplitsOff};
 ghost use Rattle.circuits.specs.Views.{layers_seen, layer_seen, copies_above, inputs_below, places_below, no_layer};
 
 use super::{LayerView, LayersView};
-use crate::places::{split_layer, top_size};
-use crate::shape::power;
+use crate::shape::{Layers, power};
 
 impl<'a> LayersView<'a> {
     pub fn copies(self) -> u32
@@ -33,7 +33,7 @@ impl<'a> LayersView<'a> {
         ensures value { result ≡ size_below (layers_seen self.entry) (inputs_below self.entry) }
         ensures limit { copies_above self.entry + result ≤ 16 }
     {
-        top_size(self.copies, self.inputs, self.count, self.words)
+        self.layers().top_size(self.inputs)
     }
 
     // How many values the first of these layers has, or the inputs where there is none, in all copies.
@@ -44,18 +44,46 @@ impl<'a> LayersView<'a> {
         power(self.copies + self.top_size())
     }
 
+    // The words of these layers, without the size of the inputs.
+    fn layers(self) -> Layers<'a>
+        ensures copies { result.copies ≡ copies_above self.entry }
+        ensures limit { result.copies + inputs_below self.entry ≤ 16 }
+        ensures count { result.count ≡ self.entry.count }
+        ensures words { result.words.now ≡ self.entry.words.now }
+    {
+        Layers {
+            copies: self.copies,
+            count: self.count,
+            words: self.words,
+        }
+    }
+
+    // The first of these layers and those below it, unless there is none.
+    pub fn split_first(self) -> Option<(LayerView<'a>, LayersView<'a>)>
+        ensures { MatchOption result (layers_seen self.entry ≡ []) (λ split. SplitsOff self.entry split.0 split.1) }
+    {
+        let (first, below) = self.layers().split_first()?;
+        let layer = LayerView {
+            size: first.size,
+            below: below.top_size(self.inputs),
+            words: first.gates,
+        };
+        let rest = LayersView {
+            copies: self.copies,
+            inputs: self.inputs,
+            count: below.count,
+            words: below.words,
+        };
+        Some((layer, rest))
+    }
+
     // The first of these layers.
     pub fn first(self) -> LayerView<'a>
         requires { 0 < length (layers_seen self) }
         ensures layer { layer_seen result ≡ slice_index_or (layers_seen self.entry) 0 no_layer }
         ensures below { places_below result ≡ size_below (drop 1 (layers_seen self.entry)) (inputs_below self.entry) }
     {
-        let split = split_layer(self.copies, self.count, self.words);
-        LayerView {
-            size: split.size,
-            below: top_size(self.copies, self.inputs, self.count - 1, split.rest),
-            words: split.gates,
-        }
+        self.split_first().unwrap().0
     }
 
     // The layers below the first of these.
@@ -65,11 +93,6 @@ impl<'a> LayersView<'a> {
         ensures copies { copies_above result ≡ copies_above self.entry }
         ensures inputs { inputs_below result ≡ inputs_below self.entry }
     {
-        LayersView {
-            copies: self.copies,
-            inputs: self.inputs,
-            count: self.count - 1,
-            words: split_layer(self.copies, self.count, self.words).rest,
-        }
+        self.split_first().unwrap().1
     }
 }

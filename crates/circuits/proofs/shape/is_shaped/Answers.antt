@@ -1,13 +1,9 @@
 -- Each turn takes the words of one layer off, as the definition does.
-use Rattle.std.proofs.Common.{◌+◌, ◌-◌, ◌&&◌, drop, sym, ap, ◌∙◌, arith}
-use Rattle.std.proofs.lemmas.List.{take_rest}
+use Rattle.std.proofs.Common.{◌+◌, ◌-◌, ◌&&◌, drop, sym, ap, ◌∙◌}
 use Rattle.circuits.specs.Words.{shaped}
 use Rattle.circuits.specs.Parts.{layer_length}
 use Rattle.circuits.proofs.Steps.{shaped_more, shaped-all}
 use Rattle.circuits.proofs.shape.is_shaped.Goals as goal
-
-pub offset_bounds-rest-taken : goal.offset_bounds-rest-taken
-offset_bounds-rest-taken c = omega (arith, c.in-Some.ensures.3)
 
 pub returns-in-None : goal.returns-in-None
 returns-in-None c =
@@ -24,11 +20,9 @@ loop-done-preserved c =
     let n = c.args.count in
     let i = c.loop-done._done in
     let ws = c.loop-done.rest.now in
-    let k = c.in-Some.taken in
     c.loop-done.invariant ∙ shaped_more copies n i ws c.loop-done-test.true
     ∙ ap (λ b. b && shaped copies (n - (i + 1)) (drop (layer_length ws) ws)) c.in-Some.ensures.0
-    ∙ ap (λ x. shaped copies (n - (i + 1)) (drop x ws)) (sym c.in-Some.ensures.1)
-    ∙ ap (shaped copies (n - (i + 1))) (sym (take_rest ws k))
+    ∙ ap (shaped copies (n - (i + 1))) (sym c.in-Some.ensures.1)
 
 pub returns : goal.returns
 returns c =

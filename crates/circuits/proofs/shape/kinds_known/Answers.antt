@@ -1,17 +1,21 @@
--- Each turn asks for the kind of one more gate, and the definition asks for it in the same order.
-use Rattle.std.proofs.Common.{sym, ◌∙◌, arith}
-use Rattle.circuits.proofs.Steps.{kinds_on, kinds_off, kinds_all}
+-- The chunks of three words are the gates, each asked for its first word.
+use Rattle.std.proofs.Common.{◌≡◌, ℕ, zero, suc, ◌/◌, ◌&&◌, List, ltb, length, get_or, take, drop, refl, ap, ◌∙◌, arith, rules, tests}
+use Rattle.std.specs.Simd.{first_chunks}
+use Rattle.std.specs.List.{list_all}
+use Rattle.std.proofs.lemmas.List.{get_or-take}
+use Rattle.std.proofs.lemmas.Iterator.{YieldsList-from_slice}
+use Rattle.std.proofs.lemmas.Iterator.Search.{all_from_yields_List}
+use Rattle.circuits.specs.Words.{kinds_known}
 use Rattle.circuits.proofs.shape.kinds_known.Goals as goal
 
-pub returns-then-not-is_kind : goal.returns-then-not-is_kind
-returns-then-not-is_kind c =
-    sym (c.loop-i.invariant
-    ∙ kinds_off c.args.count c.loop-i.i c.args.words.now c.loop-i-test.true (sym c.if-not-is_kind.ensures))
-
-pub loop-i-preserved : goal.loop-i-preserved
-loop-i-preserved c =
-    c.loop-i.invariant
-    ∙ kinds_on c.args.count c.loop-i.i c.args.words.now c.loop-i-test.true (sym c.if-not-is_kind.ensures)
+chunks_known : (n : ℕ) (ws : List ℕ) → list_all (λ gate. ltb (get_or gate 0 0) 2) (first_chunks 3 n ws) ≡ kinds_known n ws
+unfolding kinds_known
+chunks_known zero ws = refl
+chunks_known (suc n) ws = ap (λ b. ltb (get_or (take 3 ws) 0 0) 2 && b) (chunks_known n (drop 3 ws))
+    ∙ ap (λ w. ltb w 2 && kinds_known n (drop 3 ws)) (get_or-take 3 ws 0 0 (omega arith))
 
 pub returns : goal.returns
-returns c = sym (c.loop-i.invariant ∙ kinds_all c.args.count c.loop-i.i _ (omega arith))
+returns c =
+    let ws = c.args.words.now in
+    all_from_yields_List (λ gate. ltb (get_or gate 0 0) 2) _ _ c.all.result c.all.ensures.ran (YieldsList-from_slice (first_chunks 3 (length ws / 3) ws) (cc)) (λ x b q k. search (rules, tests))
+    ∙ chunks_known (length ws / 3) ws

@@ -9,7 +9,7 @@ use Rattle.evaluation.proofs.outputs.try_run.Goals as goal
 
 pub fill-requires : goal.fill-requires
 fill-requires c =
-    let seen = circuit_seen c.new-view.result in
+    let seen = circuit_seen c.in_ok-view.view in
     let inputs = length c.args.inputs.now in
     let room = length c.args.room.now in
     let i = 2 ^ (seen.copies + seen.inputs) in
