@@ -2,3 +2,5 @@ pub mod Sums
 pub mod Gathered
 pub mod Meaning
 pub mod Shares
+pub mod Messages
+pub mod Drawing

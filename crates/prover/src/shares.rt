@@ -1,16 +1,15 @@
 // The shares of a claim that the prover holds, seen by the sums: their factors, and just the coordinates of their points.
 // The arrays have room for any point, so that only their fronts count.
-ghost use Rattle.std.specs.Prelude.{◌≡◌, ◌≤◌, length};
+ghost use Rattle.std.specs.Prelude.{◌≡◌, ◌≤◌};
 ghost use Rattle.circuits.specs.Words.{modulus};
 ghost use Rattle.claims.specs.Meaning.{share_meant, others};
 ghost use Rattle.claims.specs.Shares.{ShareFits, SecondFits, share_seen, second_seen};
-ghost use Rattle.prover.specs.Provers.{SecondLong};
 
 use claims::claim::Share;
 use claims::share::ShareView;
 
 pub fn view_share<'a>(share: &'a Share, size: u32) -> ShareView<'a>
-    requires { (size ≤ 16) × (length share.now.point ≡ 16) }
+    requires { size ≤ 16 }
     ensures seen { share_seen result ≡ share_meant size share.now }
     ensures fits { ShareFits modulus size result }
 {
@@ -21,7 +20,7 @@ pub fn view_share<'a>(share: &'a Share, size: u32) -> ShareView<'a>
 }
 
 pub fn view_second<'a>(second: &'a Option<Share>, size: u32) -> Option<ShareView<'a>>
-    requires { (size ≤ 16) × (SecondLong second.now) }
+    requires { size ≤ 16 }
     ensures seen { second_seen result ≡ others size second.now }
     ensures fits { SecondFits modulus size result }
 {
