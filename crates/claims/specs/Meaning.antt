@@ -5,6 +5,7 @@ use Rattle.arithmetic.specs.Numbers.{Numbers, modulo}
 use Rattle.circuits.specs.Words.{modulus}
 use Rattle.argument.specs.Claims as claims
 use Rattle.claims.specs.declared.claim.Share.{Share}
+use Rattle.claims.specs.declared.claim.Shares.{Shares}
 use Rattle.claims.specs.declared.claim.Claim.{Claim}
 
 -- the numbers of the programs
@@ -19,9 +20,9 @@ abbrev pub others : ℕ → Option Share → List (claims.Share ℕ)
 others size None = []
 others size (Some s) = share_meant size s ∷ []
 
-abbrev pub shares_meant : ℕ → Share → Option Share → List (claims.Share ℕ)
-shares_meant size first second = share_meant size first ∷ others size second
+abbrev pub shares_meant : ℕ → Shares → List (claims.Share ℕ)
+shares_meant size s = share_meant size s.first ∷ others size s.second
 
 abbrev pub claim_meant : ℕ → ℕ → Claim → claims.Claim ℕ
 claim_meant copies size k =
-    record { copy = take copies k.copy; shares = shares_meant size k.first k.second; total = k.total }
+    record { copy = take copies k.copy; shares = shares_meant size k.shares; total = k.total }

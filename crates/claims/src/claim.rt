@@ -17,11 +17,17 @@ pub struct Share {
     ghost point_reduced: { all_reduced (modulo modulus) point ≡ true },
 }
 
+// What is asked of the layer: one share, or two.
+#[derive(Clone, Copy)]
+pub struct Shares {
+    pub first: Share,
+    pub second: Option<Share>,
+}
+
 #[derive(Clone, Copy)]
 pub struct Claim {
     pub copy: [u32; MOST_COORDINATES],
-    pub first: Share,
-    pub second: Option<Share>,
+    pub shares: Shares,
     pub total: u32,
     ghost copy_reduced: { all_reduced (modulo modulus) copy ≡ true },
     ghost total_reduced: { total < modulus },

@@ -10,15 +10,6 @@ use tables::halving::mle_at;
 // no table is larger
 pub const MOST_PLACES: usize = 65536;
 
-// How many places a table of so many variables has.
-pub fn places(variables: u32) -> usize
-    requires { variables ≤ 16 }
-    ensures value { result ≡ 2 ^ variables }
-    ensures limit { result ≤ 65536 }
-{
-    1 << variables
-}
-
 // In room that is just as long as the table.
 fn extension_in<M: Modular>(room: &mut [u32], values: &[u32], point: &[u32]) -> u32
     requires room { length room.old ≡ length values.now }

@@ -4,10 +4,10 @@ ghost use Rattle.std.specs.Prelude.{◌≡◌, ℕ, ◌+◌, ◌^◌, ◌≤◌,
 ghost use Rattle.arithmetic.specs.Numbers.{modulo, all_reduced};
 ghost use Rattle.tables.specs.Multilinear.{mle};
 ghost use Rattle.argument.specs.Claims.{share_sum};
-ghost use Rattle.claims.specs.Shares.{ShareFits, SecondFits, shares_seen};
+ghost use Rattle.claims.specs.Shares.{SharesFit, shares_seen};
 
 use crate::extension::{MOST_PLACES, extension_at};
-use crate::share::ShareView;
+use crate::share::SharesView;
 use arithmetic::modular::Modular;
 use tables::halving::fix_first;
 
@@ -28,15 +28,17 @@ fn fix_variables<M: Modular>(table: &mut [u32], point: &[u32]) -> usize
 }
 
 // Over the values of one copy.
-fn add_shares<M: Modular>(values: &[u32], first: ShareView, second: Option<ShareView>) -> u32
-    requires length { (length values.now ≡ 2 ^ length first.point.now) × (length first.point.now ≤ 16) }
+fn add_shares<M: Modular>(values: &[u32], shares: SharesView) -> u32
+    requires length { (length values.now ≡ 2 ^ length shares.first.point.now) × (length shares.first.point.now ≤ 16) }
     requires reduced { T (all_reduced (modulo M.modulus) values.now) }
-    requires first { ShareFits M.modulus (length first.point.now) first }
-    requires second { SecondFits M.modulus (length first.point.now) second }
-    ensures { result ≡ share_sum (modulo M.modulus) values.now [] (shares_seen first.entry second.entry) }
+    requires shares { SharesFit M.modulus (length shares.first.point.now) shares }
+    ensures { result ≡ share_sum (modulo M.modulus) values.now [] (shares_seen shares.entry) }
 {
-    let value = M::mul(first.factor, extension_at::<M>(values, first.point));
-    match second {
+    let value = M::mul(
+        shares.first.factor,
+        extension_at::<M>(values, shares.first.point),
+    );
+    match shares.second {
         None => value,
         Some(share) => M::add(
             value,
@@ -50,34 +52,26 @@ fn sum_shares_in<M: Modular>(
     room: &mut [u32],
     values: &[u32],
     copy: &[u32],
-    first: ShareView,
-    second: Option<ShareView>,
+    shares: SharesView,
 ) -> u32
     requires room { length room.old ≡ length values.now }
-    requires length { (length values.now ≡ 2 ^ (length copy.now + length first.point.now)) × (length first.point.now ≤ 16) }
+    requires length { (length values.now ≡ 2 ^ (length copy.now + length shares.first.point.now)) × (length shares.first.point.now ≤ 16) }
     requires reduced { (T (all_reduced (modulo M.modulus) values.now)) × (T (all_reduced (modulo M.modulus) copy.now)) }
-    requires first { ShareFits M.modulus (length first.point.now) first }
-    requires second { SecondFits M.modulus (length first.point.now) second }
-    ensures { result ≡ share_sum (modulo M.modulus) values.now copy.now (shares_seen first.entry second.entry) }
+    requires shares { SharesFit M.modulus (length shares.first.point.now) shares }
+    ensures { result ≡ share_sum (modulo M.modulus) values.now copy.now (shares_seen shares.entry) }
 {
     room.copy_from_slice(values);
     let left = fix_variables::<M>(room, copy);
-    add_shares::<M>(&room[0..left], first, second)
+    add_shares::<M>(&room[0..left], shares)
 }
 
 // Over the values of all copies, at the copies' point.
-pub fn sum_shares<M: Modular>(
-    values: &[u32],
-    copy: &[u32],
-    first: ShareView,
-    second: Option<ShareView>,
-) -> u32
-    requires length { (length values.now ≡ 2 ^ (length copy.now + length first.point.now)) × (length copy.now + length first.point.now ≤ 16) }
+pub fn sum_shares<M: Modular>(values: &[u32], copy: &[u32], shares: SharesView) -> u32
+    requires length { (length values.now ≡ 2 ^ (length copy.now + length shares.first.point.now)) × (length copy.now + length shares.first.point.now ≤ 16) }
     requires reduced { (T (all_reduced (modulo M.modulus) values.now)) × (T (all_reduced (modulo M.modulus) copy.now)) }
-    requires first { ShareFits M.modulus (length first.point.now) first }
-    requires second { SecondFits M.modulus (length first.point.now) second }
-    ensures { result ≡ share_sum (modulo M.modulus) values.now copy.now (shares_seen first.entry second.entry) }
+    requires shares { SharesFit M.modulus (length shares.first.point.now) shares }
+    ensures { result ≡ share_sum (modulo M.modulus) values.now copy.now (shares_seen shares.entry) }
 {
     let mut work = [0; MOST_PLACES];
-    sum_shares_in::<M>(&mut work[0..values.len()], values, copy, first, second)
+    sum_shares_in::<M>(&mut work[0..values.len()], values, copy, shares)
 }

@@ -1,7 +1,6 @@
-// Tables at the front of lent words: what a part of a layer begins with, and one variable fixed after each coin.
-// Each takes one pass over a table or over the layer's gates.
+// What a part of a layer begins with, in tables gathered from the layer's gates.
+// Each takes one pass over a table or over the gates.
 #![tactic(auto)]
 
 pub mod fronts;
 pub mod gather;
-pub mod parts;

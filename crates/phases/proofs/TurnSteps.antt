@@ -1,8 +1,12 @@
 -- One turn's calls, as they stand in the code: fronts whose ends are counts that were worked out.
 -- Where `left` variables were left, one less is left after the coin.
-use Rattle.std.proofs.Common.{◌≡◌, ℕ, suc, ◌+◌, ◌-◌, ◌*◌, ◌/◌, ◌^◌, ◌<◌, T, List, [], ◌∷◌, ◌++◌, length, take, sym, ap, ◌∙◌, subst, ap₂, arith, pow-add}
+use Rattle.std.proofs.Common.{◌≡◌, ℕ, suc, ◌+◌, ◌-◌, ◌*◌, ◌/◌, ◌^◌, ◌<◌, ◌≤◌, T, List, [], ◌∷◌, ◌++◌, length, take, drop, sym, ap, ◌∙◌, subst, ap₂, arith, pow-add, length-append}
 use native.Mathlib.Nat.{two-pow-succ}
+use Rattle.std.proofs.lemmas.List.{take_at, take-append-le, length-take-le}
+use Rattle.arithmetic.proofs.Modulo.{ring_modulo}
 use Rattle.arithmetic.specs.Numbers.{modulo, all_reduced}
+use Rattle.tables.proofs.Extension.{fix_first-length}
+use Rattle.tables.proofs.ReducedLists.{reduced_take}
 use Rattle.tables.specs.Multilinear.{fix_first, sum_corners}
 use Rattle.circuits.specs.Circuit.{Layer}
 use Rattle.argument.specs.Claims.{Claim}
@@ -25,7 +29,25 @@ half_all n m h =
     let less : n + m - 1 ≡ n - 1 + m = omega arith in
     half_of (n + m) (omega arith) ∙ ap (λ (k : ℕ). 2 ^ k) less ∙ pow-add 2 (n - 1) m
 
-pub fixed_turn : (p n count r : ℕ) (old new : List ℕ) → 0 < n → count ≡ 2 ^ n →
+-- The front of some words, halved by a call on it, whatever lies behind it.
+module _ (p : ℕ) (several : 1 < p) (count r : ℕ) (words new rest : List ℕ) (within : count ≤ length words)
+    (is : new ≡ fix_first (modulo p) r (take count words) ++ drop (length (take count words) / 2) (take count words)) where
+  abbrev back : List ℕ
+  back = drop (length (take count words) / 2) (take count words)
+
+  half : length (fix_first (modulo p) r (take count words)) ≡ count / 2
+  half = fix_first-length (ring_modulo p several) r (take count words) ∙ ap (λ (k : ℕ). k / 2) (length-take-le count words within)
+
+  inside : count / 2 ≤ length new
+  inside = omega (arith, half, ap length is ∙ length-append (fix_first (modulo p) r (take count words)) back)
+
+  pub halved : take (count / 2) (new ++ rest) ≡ fix_first (modulo p) r (take count words)
+  halved = take-append-le (count / 2) new rest inside ∙ ap (take (count / 2)) is ∙ take_at (fix_first (modulo p) r (take count words)) back (count / 2) half
+
+  pub halved_reduced : T (all_reduced (modulo p) new) → T (all_reduced (modulo p) (take (count / 2) (new ++ rest)))
+  halved_reduced t = subst (λ (l : List ℕ). T (all_reduced (modulo p) l)) (sym (take-append-le (count / 2) new rest inside)) (reduced_take p (count / 2) new t)
+
+fixed_turn : (p n count r : ℕ) (old new : List ℕ) → 0 < n → count ≡ 2 ^ n →
     take (count / 2) new ≡ fix_first (modulo p) r (take count old) → T (all_reduced (modulo p) (take (count / 2) new)) → Fixed p (n - 1) r old new
 fixed_turn p n count r old new h e front reduced =
     let half : count / 2 ≡ 2 ^ (n - 1) = ap (λ (k : ℕ). k / 2) e ∙ half_of n h in
@@ -33,6 +55,12 @@ fixed_turn p n count r old new h e front reduced =
       front = ap (λ (k : ℕ). take k new) (sym half) ∙ front ∙ ap (λ (k : ℕ). fix_first (modulo p) r (take k old)) (e ∙ ap (λ (k : ℕ). 2 ^ k) (one_less n h));
       reduced = reduced_end p (count / 2) (2 ^ (n - 1)) new half reduced;
     }
+
+pub fixed_by : (p : ℕ) → 1 < p → (n count r : ℕ) (words new rest : List ℕ) → 0 < n → count ≡ 2 ^ n → count ≤ length words →
+    new ≡ fix_first (modulo p) r (take count words) ++ drop (length (take count words) / 2) (take count words) → T (all_reduced (modulo p) new) →
+    Fixed p (n - 1) r words (new ++ rest)
+fixed_by p several n count r words new rest h e within is t =
+    fixed_turn p n count r words (new ++ rest) h e (halved p several count r words new rest within is) (halved_reduced p several count r words new rest within is t)
 
 pub copies_turn : (p : ℕ) (l : Layer) (m : ℕ) (k : Claim ℕ) (X c : List ℕ) (n all count r : ℕ) (v w h v' h' : List ℕ) → 0 < n →
     all ≡ 2 ^ (n + m) → count ≡ 2 ^ n → CopyTables p l m k X c n v w h →

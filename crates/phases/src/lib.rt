@@ -2,5 +2,6 @@
 // The tables of a part give the layer's sum over the corners that are left; each coin halves them.
 #![tactic(auto)]
 
+pub mod quarters;
 pub mod starts;
 pub mod turns;

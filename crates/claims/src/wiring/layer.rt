@@ -6,13 +6,13 @@ ghost use Rattle.circuits.specs.Circuit.{sum, product};
 ghost use Rattle.circuits.specs.Views.{layer_seen, gates_seen, size_seen, places_below};
 ghost use Rattle.argument.specs.Claims.{shared_wiring};
 ghost use Rattle.claims.specs.Gathered.{Wired};
-ghost use Rattle.claims.specs.Shares.{ShareFits, SecondFits, shares_seen};
+ghost use Rattle.claims.specs.Shares.{SharesFit, shares_seen};
 
 use super::Wiring;
 use super::gather::gather;
 use super::weights::weigh;
 use crate::extension::MOST_PLACES;
-use crate::share::ShareView;
+use crate::share::SharesView;
 use arithmetic::modular::Modular;
 use circuits::{LayerView, power};
 use tables::eq::eq_table;
@@ -59,42 +59,33 @@ fn wire<M: Modular>(layer: LayerView, weights: &[u32], x: &[u32], y: &[u32]) -> 
 // In room for the weights.
 fn wire_shares_in<M: Modular>(
     layer: LayerView,
-    first: ShareView,
-    second: Option<ShareView>,
+    shares: SharesView,
     x: &[u32],
     y: &[u32],
     weights: &mut [u32],
 ) -> Wiring
-    requires first { ShareFits M.modulus (size_seen layer) first }
-    requires second { SecondFits M.modulus (size_seen layer) second }
+    requires shares { SharesFit M.modulus (size_seen layer) shares }
     requires x { (length x.now ≡ places_below layer) × (T (all_reduced (modulo M.modulus) x.now)) }
     requires y { (length y.now ≡ places_below layer) × (T (all_reduced (modulo M.modulus) y.now)) }
     requires room { (length weights.old ≡ 2 ^ size_seen layer) × (size_seen layer ≤ 16) }
-    ensures sums { result.sums ≡ shared_wiring (modulo M.modulus) sum (layer_seen layer.entry) (places_below layer.entry) (shares_seen first.entry second.entry) x.now y.now }
-    ensures products { result.products ≡ shared_wiring (modulo M.modulus) product (layer_seen layer.entry) (places_below layer.entry) (shares_seen first.entry second.entry) x.now y.now }
+    ensures sums { result.sums ≡ shared_wiring (modulo M.modulus) sum (layer_seen layer.entry) (places_below layer.entry) (shares_seen shares.entry) x.now y.now }
+    ensures products { result.products ≡ shared_wiring (modulo M.modulus) product (layer_seen layer.entry) (places_below layer.entry) (shares_seen shares.entry) x.now y.now }
     ensures below { (result.sums < M.modulus) × (result.products < M.modulus) }
 {
-    weigh::<M>(first, second, weights);
+    weigh::<M>(shares, weights);
     wire::<M>(layer, weights, x, y)
 }
 
 // The wiring of the sums and of the products of a layer, for a claim with these shares.
-pub fn wire_shares<M: Modular>(
-    layer: LayerView,
-    first: ShareView,
-    second: Option<ShareView>,
-    x: &[u32],
-    y: &[u32],
-) -> Wiring
-    requires first { ShareFits M.modulus (size_seen layer) first }
-    requires second { SecondFits M.modulus (size_seen layer) second }
+pub fn wire_shares<M: Modular>(layer: LayerView, shares: SharesView, x: &[u32], y: &[u32]) -> Wiring
+    requires shares { SharesFit M.modulus (size_seen layer) shares }
     requires x { (length x.now ≡ places_below layer) × (T (all_reduced (modulo M.modulus) x.now)) }
     requires y { (length y.now ≡ places_below layer) × (T (all_reduced (modulo M.modulus) y.now)) }
-    ensures sums { result.sums ≡ shared_wiring (modulo M.modulus) sum (layer_seen layer.entry) (places_below layer.entry) (shares_seen first.entry second.entry) x.now y.now }
-    ensures products { result.products ≡ shared_wiring (modulo M.modulus) product (layer_seen layer.entry) (places_below layer.entry) (shares_seen first.entry second.entry) x.now y.now }
+    ensures sums { result.sums ≡ shared_wiring (modulo M.modulus) sum (layer_seen layer.entry) (places_below layer.entry) (shares_seen shares.entry) x.now y.now }
+    ensures products { result.products ≡ shared_wiring (modulo M.modulus) product (layer_seen layer.entry) (places_below layer.entry) (shares_seen shares.entry) x.now y.now }
     ensures below { (result.sums < M.modulus) × (result.products < M.modulus) }
 {
     let mut weights = [0; MOST_PLACES];
     let gates = power(layer.size());
-    wire_shares_in::<M>(layer, first, second, x, y, &mut weights[0..gates])
+    wire_shares_in::<M>(layer, shares, x, y, &mut weights[0..gates])
 }

@@ -3,11 +3,11 @@
 ghost use Rattle.std.specs.Prelude.{◌≡◌, ℕ, ◌+◌, ◌*◌, ◌%◌, ◌^◌, ◌<◌, ◌≤◌, T, length, slice_index};
 ghost use Rattle.arithmetic.specs.Numbers.{modulo, all_reduced};
 ghost use Rattle.tables.specs.Multilinear.{eq_poly, bits_of};
-ghost use Rattle.claims.specs.Shares.{ShareFits, SecondFits, shares_seen};
+ghost use Rattle.claims.specs.Shares.{SharesFit, shares_seen};
 ghost use Rattle.claims.specs.Sums.{share_weight};
 
 use crate::extension::MOST_PLACES;
-use crate::share::ShareView;
+use crate::share::SharesView;
 use arithmetic::modular::Modular;
 use tables::eq::eq_table_scaled;
 
@@ -35,15 +35,14 @@ fn add_share<M: Modular>(factor: u32, point: &[u32], room: &mut [u32], weights: 
 }
 
 // The weights of a layer with 2^n gates, where n is how many coordinates the shares' points have.
-pub fn weigh<M: Modular>(first: ShareView, second: Option<ShareView>, weights: &mut [u32])
-    requires length { (length weights.old ≡ 2 ^ length first.point.now) × (length first.point.now ≤ 16) }
-    requires first { ShareFits M.modulus (length first.point.now) first }
-    requires second { SecondFits M.modulus (length first.point.now) second }
-    ensures weights { (i : ℕ) → i < 2 ^ length first.entry.point.now → slice_index weights.new i ≡ share_weight (modulo M.modulus) (length first.entry.point.now) (shares_seen first.entry second.entry) i }
+pub fn weigh<M: Modular>(shares: SharesView, weights: &mut [u32])
+    requires length { (length weights.old ≡ 2 ^ length shares.first.point.now) × (length shares.first.point.now ≤ 16) }
+    requires shares { SharesFit M.modulus (length shares.first.point.now) shares }
+    ensures weights { (i : ℕ) → i < 2 ^ length shares.entry.first.point.now → slice_index weights.new i ≡ share_weight (modulo M.modulus) (length shares.entry.first.point.now) (shares_seen shares.entry) i }
     ensures reduced { T (all_reduced (modulo M.modulus) weights.new) }
 {
-    eq_table_scaled::<M>(first.factor, first.point, weights);
-    if let Some(share) = second {
+    eq_table_scaled::<M>(shares.first.factor, shares.first.point, weights);
+    if let Some(share) = shares.second {
         let mut room = [0; MOST_PLACES];
         add_share::<M>(
             share.factor,

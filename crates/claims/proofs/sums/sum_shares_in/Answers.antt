@@ -18,7 +18,7 @@ add_shares-requires g c =
     let p = g.M.Modular.modulus in
     let left = c.fix_variables-left.result in
     let table = c.fix_variables-left.new.table in
-    let z = c.args.first.point.now in
+    let z = c.args.shares.first.point.now in
     let size : length c.copy_from_slice.new.self ≡ 2 ^ (length c.args.copy.now + length z) =
     ap length c.copy_from_slice.ensures.after ∙ c.requires.length.0
     in
@@ -26,8 +26,7 @@ add_shares-requires g c =
     record {
       length = (length-take-le (left - 0) table (omega (arith, c.fix_variables-left.ensures.fits)) ∙ omega (arith, count), c.requires.length.1);
       reduced = reduced_take p (left - 0) table c.fix_variables-left.ensures.reduced;
-      first = c.requires.first;
-      second = c.requires.second;
+      shares = c.requires.shares;
     }
 
 pub returns : goal.returns
@@ -37,9 +36,9 @@ returns g c =
     let table = c.fix_variables-left.new.table in
     let values = c.args.values.now in
     let copy = c.args.copy.now in
-    let n : ℕ = length c.args.first.point.now in
+    let n : ℕ = length c.args.shares.first.point.now in
     let copied : c.copy_from_slice.new.self ≡ values = c.copy_from_slice.ensures.after in
-    let shares = shares_seen c.args.first c.args.second in
+    let shares = shares_seen c.args.shares in
     let fixed : (z : List ℕ) → length z ≡ n → mle (modulo p) (take (left - 0) table) z ≡ mle (modulo p) values (copy ++ z) =
     λ z e.
     ap (λ (m : ℕ). mle (modulo p) (take m table) z) (omega arith) ∙
@@ -48,4 +47,4 @@ returns g c =
     ap (λ (xs : List ℕ). mle (modulo p) xs (copy ++ z)) copied
     in
     c.add_shares.ensures ∙
-    sum_fixed p n values copy (take (left - 0) table) shares (c.requires.first.coordinates, second_size p n c.args.second c.requires.second) fixed
+    sum_fixed p n values copy (take (left - 0) table) shares (c.requires.shares.first.coordinates, second_size p n c.args.shares.second c.requires.shares.second) fixed

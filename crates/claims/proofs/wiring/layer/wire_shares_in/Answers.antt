@@ -17,10 +17,10 @@ returns g c =
     let layer = c.args.layer in
     let fit = (layer_parts layer.size layer.below layer.words.now layer.lawful).fits in
     let all = length-gates_of (2 ^ layer.size) layer.words.now in
-    let shares = shares_seen c.args.first c.args.second in
+    let shares = shares_seen c.args.shares in
     let weights = c.weigh.new.weights in
     let weighed : (i : ℕ) → i < 2 ^ layer.size → get_or weights i 0 ≡ share_weight (modulo p) layer.size shares i =
-    subst (λ (n : ℕ). (i : ℕ) → i < 2 ^ n → get_or weights i 0 ≡ share_weight (modulo p) n shares i) c.requires.first.coordinates c.weigh.ensures.weights
+    subst (λ (n : ℕ). (i : ℕ) → i < 2 ^ n → get_or weights i 0 ≡ share_weight (modulo p) n shares i) c.requires.shares.first.coordinates c.weigh.ensures.weights
     in
     record {
       sums = c.wire.ensures.sums ∙ shared p several sum weights c.args.x.now c.args.y.now layer.below (layer_seen layer) shares fit all weighed;

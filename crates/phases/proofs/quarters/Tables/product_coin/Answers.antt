@@ -1,0 +1,45 @@
+-- Each of the three tables is halved.
+use Rattle.std.proofs.Common.{◌≡◌, ℕ, ◌-◌, ◌^◌, ◌<◌, sym, ◌∙◌, arith}
+use native.Mathlib.Nat.{sub-zero}
+use Rattle.phases.proofs.StartsRead.{reduced_end}
+use Rattle.phases.proofs.TurnSteps.{fixed_by}
+use Rattle.phases.proofs.quarters.Tables.product_coin.Goals as goal
+
+pub fix_first-requires-clause-reduced : goal.fix_first-requires-clause-reduced
+fix_first-requires-clause-reduced g c =
+    let n = c.power-count.result in
+    reduced_end g.M.Modular.modulus _ (n - 0) c.args.self.now.v.now (sym (sub-zero n ∙ c.power-count.ensures.value)) c.requires.fronts.front_v
+
+pub fix_first-requires-2-clause-reduced : goal.fix_first-requires-2-clause-reduced
+fix_first-requires-2-clause-reduced g c =
+    let n = c.power-count.result in
+    reduced_end g.M.Modular.modulus _ (n - 0) c.args.self.now.h.now (sym (sub-zero n ∙ c.power-count.ensures.value)) c.requires.fronts.front_h
+
+pub fix_first-requires-3-clause-reduced : goal.fix_first-requires-3-clause-reduced
+fix_first-requires-3-clause-reduced g c =
+    let n = c.power-count.result in
+    reduced_end g.M.Modular.modulus _ (n - 0) c.args.self.now.j.now (sym (sub-zero n ∙ c.power-count.ensures.value)) c.requires.fronts.front_j
+
+pub returns-clause-v : goal.returns-clause-v
+returns-clause-v g c =
+    let p = g.M.Modular.modulus in
+    let several : 1 < p = omega (arith, g.met.M.Modular.above) in
+    let n = c.power-count.result in
+    fixed_by p several c.args.left (n - 0) c.args.coin c.args.self.now.v.now c.fix_first.new.table _ c.requires.left.0 (sub-zero n ∙ c.power-count.ensures.value)
+    (omega arith) c.fix_first.ensures.words c.fix_first.ensures.reduced
+
+pub returns-clause-h : goal.returns-clause-h
+returns-clause-h g c =
+    let p = g.M.Modular.modulus in
+    let several : 1 < p = omega (arith, g.met.M.Modular.above) in
+    let n = c.power-count.result in
+    fixed_by p several c.args.left (n - 0) c.args.coin c.args.self.now.h.now c.fix_first-2.new.table _ c.requires.left.0 (sub-zero n ∙ c.power-count.ensures.value)
+    (omega arith) c.fix_first-2.ensures.words c.fix_first-2.ensures.reduced
+
+pub returns-clause-j : goal.returns-clause-j
+returns-clause-j g c =
+    let p = g.M.Modular.modulus in
+    let several : 1 < p = omega (arith, g.met.M.Modular.above) in
+    let n = c.power-count.result in
+    fixed_by p several c.args.left (n - 0) c.args.coin c.args.self.now.j.now c.fix_first-3.new.table _ c.requires.left.0 (sub-zero n ∙ c.power-count.ensures.value)
+    (omega arith) c.fix_first-3.ensures.words c.fix_first-3.ensures.reduced
