@@ -53,17 +53,17 @@ module _ (ls : LayersView) (r : HonestProver) (el : layers_seen ls ≡ layer_see
 
   begins_says : (later : List ℕ) → speaks r later ≡
       honest_from (modulo modulus) (copies_above ls) (layers_seen ls) (inputs_below ls) r.inputs.now
-      (claim_on (take (copies_above ls) r.copy) (shares_meant (size_below (layers_seen ls) (inputs_below ls)) r.first r.second)) later
+      (claim_on (take (copies_above ls) r.copy) (shares_meant (size_below (layers_seen ls) (inputs_below ls)) r.shares)) later
   begins_says later =
       let N = modulo modulus in
       let ms : List Layer = layer_seen r.layer ∷ layers_seen r.rest in
       let top : size_below (layers_seen ls) (inputs_below ls) ≡ size_seen r.layer = ap (λ (qs : List Layer). size_below qs (inputs_below ls)) el in
       ap (λ (d : List ℕ). honest_from N (copies_of r) ms (inputs_below r.rest) r.inputs.now (claim_held r) (d ++ later)) none
-      ∙ ap₂ (λ (n i : ℕ). honest_from N n ms i r.inputs.now (claim_on (take n r.copy) (shares_meant (size_seen r.layer) r.first r.second)) later) ec ei
+      ∙ ap₂ (λ (n i : ℕ). honest_from N n ms i r.inputs.now (claim_on (take n r.copy) (shares_meant (size_seen r.layer) r.shares)) later) ec ei
       ∙ ap₂ (λ (qs : List Layer) (n : ℕ). honest_from N (copies_above ls) qs (inputs_below ls) r.inputs.now
-      (claim_on (take (copies_above ls) r.copy) (shares_meant n r.first r.second)) later) (sym el) (sym top)
+      (claim_on (take (copies_above ls) r.copy) (shares_meant n r.shares)) later) (sym el) (sym top)
 
-  pub begins : Begins ls r.inputs.now r.copy r.first r.second r
+  pub begins : Begins ls r.inputs.now r.copy r.shares r
   unfolding layer_coins layer_words
   begins =
       let short : length (history r) ≡ 0 = ap length none in
@@ -82,7 +82,7 @@ module _ (ls : LayersView) (r : HonestProver) (el : layers_seen ls ≡ layer_see
 
 -- after the two values of t, whose coins were cut into the shares of the claim below
 module _ (t r : HonestProver) (coin : ℕ) (all : length (history t) ≡ variables_of t) (copy : List ℕ) (first second : Share)
-    (e1 : first.factor ≡ 1) (e2 : second.factor ≡ coin) (begun : Begins t.rest t.inputs.now copy first (Some second) r)
+    (e1 : first.factor ≡ 1) (e2 : second.factor ≡ coin) (begun : Begins t.rest t.inputs.now copy (record { first = first; second = Some second }) r)
     (ic : take (copies_of t) copy ≡ take (copies_of t) (history t))
     (ix : take (below_of t) first.point ≡ take (below_of t) (drop (copies_of t) (history t)))
     (iy : take (below_of t) second.point ≡ take (below_of t) (drop (copies_of t + below_of t) (history t))) where
@@ -97,7 +97,7 @@ module _ (t r : HonestProver) (coin : ℕ) (all : length (history t) ≡ variabl
       let make : ℕ → List ℕ → claims.Share ℕ = λ f xs. record { factor = f; point = xs } in
       let go : List ℕ → List (claims.Share ℕ) → List ℕ = λ c shares. honest_from N (copies_of t) (layers_seen t.rest) (inputs_below t.rest) t.inputs.now (claim_on c shares) later in
       begun.says later
-      ∙ ap (λ (n : ℕ). go (take (copies_of t) copy) (shares_meant n first (Some second))) (sym t.below)
+      ∙ ap (λ (n : ℕ). go (take (copies_of t) copy) (shares_meant n (record { first = first; second = Some second }))) (sym t.below)
       ∙ ap₂ (λ (f g : ℕ). go (take (copies_of t) copy) (make f (take (below_of t) first.point) ∷ make g (take (below_of t) second.point) ∷ [])) e1 e2
       ∙ ap (λ (c : List ℕ). go c (make 1 (take (below_of t) first.point) ∷ make coin (take (below_of t) second.point) ∷ [])) ic
       ∙ ap₂ (λ (x y : List ℕ). go (take (copies_of t) (history t)) (make 1 x ∷ make coin y ∷ [])) ix (iy ∙ y_whole)

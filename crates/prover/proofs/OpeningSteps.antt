@@ -44,7 +44,7 @@ circuit_some ws h =
 
 -- at the layers of a circuit, with a share of factor 1 that was cut out of the coins
 module _ (c : Circuit) (vs coins copy : List ℕ) (ls : LayersView) (first : Share) (r s : HonestProver) (ec : copies_above ls ≡ c.copies)
-    (ei : inputs_below ls ≡ c.inputs) (el : layers_seen ls ≡ c.layers) (begun : Begins ls vs copy first None s) (alike : Alike s r)
+    (ei : inputs_below ls ≡ c.inputs) (el : layers_seen ls ≡ c.layers) (begun : Begins ls vs copy (record { first = first; second = None }) s) (alike : Alike s r)
     (e1 : first.factor ≡ 1) (ic : take c.copies copy ≡ take c.copies coins)
     (ix : take (output_size c) first.point ≡ take (output_size c) (drop c.copies coins)) (enough : first_coins c ≤ length coins) where
   abbrev z : List ℕ
@@ -60,8 +60,8 @@ module _ (c : Circuit) (vs coins copy : List ℕ) (ls : LayersView) (first : Sha
       let X : take (output_size c) first.point ≡ drop c.copies z = ix ∙ sym (drop-take c.copies (output_size c) coins) in
       alike.says later
       ∙ begun.says later
-      ∙ ap₂ (λ (n i : ℕ). honest_from N n (layers_seen ls) i vs (claim_on (take n copy) (shares_meant (size_below (layers_seen ls) i) first None)) later) ec ei
-      ∙ ap (λ (qs : List Layer). honest_from N c.copies qs c.inputs vs (claim_on (take c.copies copy) (shares_meant (size_below qs c.inputs) first None)) later) el
+      ∙ ap₂ (λ (n i : ℕ). honest_from N n (layers_seen ls) i vs (claim_on (take n copy) (shares_meant (size_below (layers_seen ls) i) (record { first = first; second = None }))) later) ec ei
+      ∙ ap (λ (qs : List Layer). honest_from N c.copies qs c.inputs vs (claim_on (take c.copies copy) (shares_meant (size_below qs c.inputs) (record { first = first; second = None }))) later) el
       ∙ ap (λ (f : ℕ). go (take c.copies copy) (make f (take (output_size c) first.point) ∷ [])) e1
       ∙ ap₂ (λ (d x : List ℕ). go d (make 1 x ∷ [])) C X
       ∙ sym (any_total N c.copies c.layers c.inputs vs (first_claim N c (outputs N c vs) z) 0 later)

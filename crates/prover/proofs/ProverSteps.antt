@@ -1,70 +1,58 @@
 -- The prover's stand where a part of the layer begins, from its tables there.
--- And the views of its shares, as they are asked for by the passes that make them.
-use Rattle.std.proofs.Common.{◌≡◌, ℕ, ◌+◌, ◌-◌, ◌*◌, ◌≤◌, List, [], ◌∷◌, length, take, drop, Option, sym, ap, ◌∙◌, subst, ap₂, arith, length-drop}
+-- And the view of its shares, as it is asked for by the passes that make them.
+use Rattle.std.proofs.Common.{◌≡◌, ℕ, ◌+◌, ◌-◌, ◌*◌, ◌≤◌, List, [], length, take, drop, sym, ap, ◌∙◌, subst, ap₂, arith, length-drop}
 use Rattle.std.proofs.lemmas.List.{take_all}
 use native.Mathlib.Nat.{sub-zero}
 use Rattle.circuits.specs.Views.{layer_seen, size_seen}
 use Rattle.circuits.specs.Words.{modulus}
-use Rattle.argument.specs.Claims as Claims
-use Rattle.claims.specs.Meaning.{share_meant, others, shares_meant}
-use Rattle.claims.specs.Shares.{ShareFits, SecondFits, share_seen, second_seen, shares_seen}
-use Rattle.claims.specs.declared.share.ShareView.{ShareView}
+use Rattle.claims.specs.Meaning.{shares_meant}
+use Rattle.claims.specs.Shares.{shares_seen}
+use Rattle.claims.specs.declared.share.SharesView.{SharesView}
 use Rattle.prover.specs.Provers.{IsDue, StandsAt, Stands, claim_held, values_held, copies_of, below_of, history}
-use Rattle.phases.specs.Standing.{Rooms, CopyTables, LeftTables, RightTables}
+use Rattle.phases.specs.Standing.{CopyTables, LeftTables, RightTables}
+use Rattle.phases.specs.declared.quarters.Tables.{Tables}
 use Rattle.prover.specs.declared.due.Due.TheVariants.{Copies, Left}
 use Rattle.prover.specs.declared.prover.HonestProver.{HonestProver}
 
 -- the tables of the part that is due
-module _ (t : HonestProver) (v w h j : List ℕ) (s : Stands 0 0 t v w h j) (n : ℕ) where
-  pub copies_due : IsDue t (Copies n) → CopyTables modulus (layer_seen t.layer) (below_of t) (claim_held t) (values_held t) (history t) n v w h
+module _ (t : HonestProver) (b : Tables) (s : Stands 0 0 t b) (n : ℕ) where
+  pub copies_due : IsDue t (Copies n) → CopyTables modulus (layer_seen t.layer) (below_of t) (claim_held t) (values_held t) (history t) n b.v.now b.w.now b.h.now
   copies_due (some, left) =
       let same : copies_of t - length (history t) ≡ n = omega arith in
-      subst (λ (i : ℕ). CopyTables modulus (layer_seen t.layer) (below_of t) (claim_held t) (values_held t) (history t) i v w h)
-      same (s.parts.over_copies (omega arith))
+      subst (λ (i : ℕ). CopyTables modulus (layer_seen t.layer) (below_of t) (claim_held t) (values_held t) (history t) i b.v.now b.w.now b.h.now)
+      same (s.over_copies (omega arith))
 
   pub left_due : IsDue t (Left n) →
-      LeftTables modulus (layer_seen t.layer) (below_of t) (claim_held t) (values_held t) (take (copies_of t) (history t)) (drop (copies_of t) (history t)) n t.factor v w h j
+      LeftTables modulus (layer_seen t.layer) (below_of t) (claim_held t) (values_held t) (take (copies_of t) (history t)) (drop (copies_of t) (history t)) n t.factor b.v.now b.w.now b.h.now b.j.now
   left_due (some, enough, left) =
       let same : copies_of t + below_of t - length (history t) ≡ n = omega arith in
-      subst (λ (i : ℕ). LeftTables modulus (layer_seen t.layer) (below_of t) (claim_held t) (values_held t) (take (copies_of t) (history t)) (drop (copies_of t) (history t)) i t.factor v w h j)
-      same (s.parts.over_left (omega arith) (omega arith))
+      subst (λ (i : ℕ). LeftTables modulus (layer_seen t.layer) (below_of t) (claim_held t) (values_held t) (take (copies_of t) (history t)) (drop (copies_of t) (history t)) i t.factor b.v.now b.w.now b.h.now b.j.now)
+      same (s.over_left (omega arith) (omega arith))
 
   pub right_due : copies_of t + below_of t ≤ length (history t) → length (history t) + n ≡ copies_of t + 2 * below_of t →
       RightTables modulus (layer_seen t.layer) (below_of t) (claim_held t) (values_held t) (take (copies_of t) (history t))
-      (take (below_of t) (drop (copies_of t) (history t))) (drop (copies_of t + below_of t) (history t)) n t.at_x v h j
+      (take (below_of t) (drop (copies_of t) (history t))) (drop (copies_of t + below_of t) (history t)) n t.at_x b.v.now b.h.now b.j.now
   right_due enough left =
       let same : copies_of t + 2 * below_of t - length (history t) ≡ n = omega arith in
       subst (λ (i : ℕ). RightTables modulus (layer_seen t.layer) (below_of t) (claim_held t) (values_held t) (take (copies_of t) (history t))
-      (take (below_of t) (drop (copies_of t) (history t))) (drop (copies_of t + below_of t) (history t)) i t.at_x v h j)
-      same (s.parts.over_right (omega arith))
+      (take (below_of t) (drop (copies_of t) (history t))) (drop (copies_of t + below_of t) (history t)) i t.at_x b.v.now b.h.now b.j.now)
+      same (s.over_right (omega arith))
 
 -- a layer at its start: no coin is drawn yet
-pub begun : (t : HonestProver) (v w h j : List ℕ) → history t ≡ [] → Rooms v w h → length j ≡ 65536 →
-    CopyTables modulus (layer_seen t.layer) (below_of t) (claim_held t) (values_held t) [] (copies_of t) v w h → Stands 1 1 t v w h j
-begun t v w h j none rooms room tables =
-    subst (λ (coins : List ℕ). StandsAt 1 1 t coins v w h j) (sym none)
+pub begun : (t : HonestProver) (b : Tables) → history t ≡ [] →
+    CopyTables modulus (layer_seen t.layer) (below_of t) (claim_held t) (values_held t) [] (copies_of t) b.v.now b.w.now b.h.now → Stands 1 1 t b
+begun t b none tables =
+    subst (λ (coins : List ℕ). StandsAt 1 1 t coins b) (sym none)
     (record {
-      rooms = rooms;
-      room_j = room;
-      parts =
-          record {
-            over_copies = λ _. subst (λ (n : ℕ). CopyTables modulus (layer_seen t.layer) (below_of t) (claim_held t) (values_held t) [] n v w h) (sym (sub-zero (copies_of t))) tables;
-            over_left = λ many _. absurd (omega arith);
-            over_right = λ many. absurd (omega arith);
-          };
+      over_copies = λ _. subst (λ (n : ℕ). CopyTables modulus (layer_seen t.layer) (below_of t) (claim_held t) (values_held t) [] n b.v.now b.w.now b.h.now) (sym (sub-zero (copies_of t))) tables;
+      over_left = λ many _. absurd (omega arith);
+      over_right = λ many. absurd (omega arith);
     })
 
--- the views of the shares that it holds, for a size that was read
-pub shares_held : (t : HonestProver) (size : ℕ) (first : ShareView) (second : Option ShareView) → size ≡ size_seen t.layer →
-    share_seen first ≡ share_meant size t.first → second_seen second ≡ others size t.second → (claim_held t).shares ≡ shares_seen first second
-shares_held t size first second e ef es =
-    sym (ap₂ (λ (s : Claims.Share ℕ) (ss : List (Claims.Share ℕ)). s ∷ ss) ef es ∙ ap (λ (n : ℕ). shares_meant n t.first t.second) e)
-
-pub share_fits : (m n : ℕ) (s : ShareView) → m ≡ n → ShareFits modulus m s → ShareFits modulus n s
-share_fits m n s e f = subst (λ (i : ℕ). ShareFits modulus i s) e f
-
-pub second_fits : (m n : ℕ) (s : Option ShareView) → m ≡ n → SecondFits modulus m s → SecondFits modulus n s
-second_fits m n s e f = subst (λ (i : ℕ). SecondFits modulus i s) e f
+-- the view of the shares that it holds, for a size that was read
+pub shares_held : (t : HonestProver) (size : ℕ) (shares : SharesView) → size ≡ size_seen t.layer → shares_seen shares ≡ shares_meant size t.shares →
+    (claim_held t).shares ≡ shares_seen shares
+shares_held t size shares e is = sym (is ∙ ap (λ (n : ℕ). shares_meant n t.shares) e)
 
 -- the last coins, where all of them were read
 pub rest_is : (a from : ℕ) (xs coins : List ℕ) → a ≡ from → xs ≡ coins → take (length xs - a) (drop a xs) ≡ drop from coins

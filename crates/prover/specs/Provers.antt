@@ -1,6 +1,6 @@
 -- Where the honest prover stands: what its tables hold at its coins, what it says from here on, and how much is left of it.
 -- i and q are 1 while the tables of x, or of y, are not made yet at the coin at which their part begins.
-use Rattle.std.specs.Prelude.{◌≡◌, ℕ, ◌+◌, ◌-◌, ◌*◌, ◌^◌, ◌<◌, ◌≤◌, cond, List, [], ◌∷◌, ◌++◌, length, take, drop, Option, nat_lt}
+use Rattle.std.specs.Prelude.{◌≡◌, ℕ, ◌+◌, ◌-◌, ◌*◌, ◌^◌, ◌<◌, ◌≤◌, cond, List, [], ◌∷◌, ◌++◌, length, take, drop, nat_lt}
 use Rattle.arithmetic.specs.Numbers.{modulo}
 use Rattle.circuits.specs.Circuit.{Layer, Circuit, size_below, all_values}
 use Rattle.circuits.specs.Views.{layer_seen, layers_seen, copies_above, inputs_below, size_seen, places_below}
@@ -13,8 +13,9 @@ use Rattle.argument.specs.Honest.{honest_from, honest}
 use Rattle.argument.specs.Transcript.{layer_words, answer_words}
 use Rattle.claims.specs.Drawing.{coins_drawn}
 use Rattle.claims.specs.Meaning.{shares_meant}
-use Rattle.claims.specs.declared.claim.Share.{Share}
-use Rattle.phases.specs.Standing.{claim_on, Rooms, CopyTables, LeftTables, RightTables}
+use Rattle.claims.specs.declared.claim.Shares.{Shares}
+use Rattle.phases.specs.Standing.{claim_on, CopyTables, LeftTables, RightTables}
+use Rattle.phases.specs.declared.quarters.Tables.{Tables}
 use Rattle.prover.specs.declared.due.Due.{Due}
 use Rattle.prover.specs.declared.due.Due.TheVariants.{Copies, Left, Right, Values}
 use Rattle.prover.specs.declared.prover.HonestProver.{HonestProver}
@@ -44,7 +45,7 @@ abbrev pub variables_of : HonestProver → ℕ
 variables_of t = copies_of t + 2 * below_of t
 
 abbrev pub claim_held : HonestProver → Claim ℕ
-claim_held t = claim_on (take (copies_of t) t.copy) (shares_meant (size_seen t.layer) t.first t.second)
+claim_held t = claim_on (take (copies_of t) t.copy) (shares_meant (size_seen t.layer) t.shares)
 
 abbrev pub values_held : HonestProver → List ℕ
 values_held t =
@@ -62,15 +63,13 @@ IsDue t (Right n) = (0 < n) × (copies_of t + below_of t ≤ length (history t))
 IsDue t Values = length (history t) ≡ variables_of t
 
 -- the tables are those at these coins of the layer
-pub record StandsAt (i q : ℕ) (t : HonestProver) (coins v w h j : List ℕ) : Type 0 where
-  pub rooms : Rooms v w h
-  pub room_j : length j ≡ 65536
-  pub parts :
-      Parts i q modulus (layer_seen t.layer) (below_of t) (claim_held t) (values_held t) (copies_of t) coins t.factor t.at_x
-      v w h j
+abbrev pub StandsAt : ℕ → ℕ → HonestProver → List ℕ → Tables → Type 0
+StandsAt i q t coins b =
+    Parts i q modulus (layer_seen t.layer) (below_of t) (claim_held t) (values_held t) (copies_of t) coins t.factor t.at_x
+    b.v.now b.w.now b.h.now b.j.now
 
-abbrev pub Stands : ℕ → ℕ → HonestProver → List ℕ → List ℕ → List ℕ → List ℕ → Type 0
-Stands i q t v w h j = StandsAt i q t (history t) v w h j
+abbrev pub Stands : ℕ → ℕ → HonestProver → Tables → Type 0
+Stands i q t b = StandsAt i q t (history t) b
 
 -- what it says from here on, as a function of the coins to come
 abbrev pub speaks : HonestProver → Prover ℕ
@@ -104,12 +103,12 @@ pub record Heard (coin : ℕ) (t r : HonestProver) : Type 0 where
   pub words : words_left t ≡ answer_length t + words_left r
 
 -- a prover at the first of these layers, with a claim about it, before any coin
-pub record Begins (ls : LayersView) (vs copy : List ℕ) (first : Share) (second : Option Share) (r : HonestProver) : Type 0 where
+pub record Begins (ls : LayersView) (vs copy : List ℕ) (shares : Shares) (r : HonestProver) : Type 0 where
   pub says :
       (later : List ℕ) →
       speaks r later ≡
       honest_from (modulo modulus) (copies_above ls) (layers_seen ls) (inputs_below ls) vs
-      (claim_on (take (copies_above ls) copy) (shares_meant (size_below (layers_seen ls) (inputs_below ls)) first second)) later
+      (claim_on (take (copies_above ls) copy) (shares_meant (size_below (layers_seen ls) (inputs_below ls)) shares)) later
   pub coins : coins_left r ≡ layer_coins (copies_above ls) (layers_seen ls) (inputs_below ls)
   pub words : words_left r ≡ layer_words (copies_above ls) (layers_seen ls) (inputs_below ls)
   pub none : history r ≡ []

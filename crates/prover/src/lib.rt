@@ -4,4 +4,3 @@
 
 pub mod due;
 pub mod prover;
-mod shares;

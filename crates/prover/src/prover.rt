@@ -9,7 +9,7 @@ ghost use Rattle.circuits.specs.Words.{modulus};
 ghost use Rattle.claims.specs.Drawing.{coins_drawn};
 
 use circuits::{LayerView, LayersView};
-use claims::claim::Share;
+use claims::claim::Shares;
 use claims::cut::MOST_COORDINATES;
 use claims::drawn::Drawn;
 
@@ -27,8 +27,7 @@ pub struct HonestProver<'a> {
     inputs: &'a [u32],
     // the copies' point of the claim about this layer, and its shares
     copy: [u32; MOST_COORDINATES],
-    first: Share,
-    second: Option<Share>,
+    shares: Shares,
     // the coins of this layer's variables so far
     drawn: Drawn,
     // eq of the copies' point at the copies' coins, once these are drawn

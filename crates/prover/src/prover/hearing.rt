@@ -8,9 +8,9 @@ ghost use Rattle.prover.specs.Provers.{Stands, StandsAt, Heard, history, rest_of
 use super::HonestProver;
 use crate::due::Due;
 use arithmetic::mersenne::Mersenne31;
-use claims::claim::Share;
+use claims::claim::{Share, Shares};
 use claims::cut::cut;
-use phases::turns::{copy_coin, product_coin};
+use phases::quarters::Tables;
 
 impl<'a> HonestProver<'a> {
     // What is asked of the layer below: shares 1 at x and the coin at y, at the copies' coins.
@@ -24,56 +24,51 @@ impl<'a> HonestProver<'a> {
         let point = self.drawn.as_slice();
         let x = self.start_of_x();
         let y = self.start_of_y();
-        let first = Share {
-            factor: 1,
-            point: cut(point, x, y - x),
+        let shares = Shares {
+            first: Share {
+                factor: 1,
+                point: cut(point, x, y - x),
+            },
+            second: Some(Share {
+                factor: coin,
+                point: cut(point, y, y - x),
+            }),
         };
-        let second = Share {
-            factor: coin,
-            point: cut(point, y, y - x),
-        };
-        HonestProver::at(
-            self.rest,
-            self.inputs,
-            cut(point, 0, x),
-            first,
-            Some(second),
-        )
+        HonestProver::at(self.rest, self.inputs, cut(point, 0, x), shares)
     }
 
     // A coin more, by which the tables are halved already.
-    fn push(&mut self, coin: u32, v: &mut [u32], w: &mut [u32], h: &mut [u32], j: &mut [u32])
+    fn push(&mut self, coin: u32, tables: &mut Tables)
         requires more { length (history self.old) < variables_of self.old }
         requires coin { coin < modulus }
-        requires stands { StandsAt 1 1 self.old (history self.old ++ coin ∷ []) v.old w.old h.old j.old }
+        requires stands { StandsAt 1 1 self.old (history self.old ++ coin ∷ []) tables.old }
         ensures heard { Heard coin self.old self.new }
-        ensures stands { Stands 0 0 self.new v.new w.new h.new j.new }
+        ensures stands { Stands 0 0 self.new tables.new }
     {
         self.drawn.push(coin);
-        self.settle_left(v, w, h, j);
-        self.settle_right(v, w, h, j);
+        self.settle(tables);
     }
 
     // Takes any coin but the last one, after which nothing is answered.
-    pub fn hear(&mut self, coin: u32, v: &mut [u32], w: &mut [u32], h: &mut [u32], j: &mut [u32])
-        requires stands { Stands 0 0 self.old v.old w.old h.old j.old }
+    pub fn hear(&mut self, coin: u32, tables: &mut Tables)
+        requires stands { Stands 0 0 self.old tables.old }
         requires more { 1 < coins_left self.old }
         requires coin { coin < modulus }
         ensures heard { Heard coin self.old self.new }
-        ensures stands { Stands 0 0 self.new v.new w.new h.new j.new }
+        ensures stands { Stands 0 0 self.new tables.new }
     {
         match self.due() {
             Due::Copies(left) => {
-                copy_coin::<Mersenne31>(self.layer, left, coin, v, h);
-                self.push(coin, v, w, h, j);
+                tables.copy_coin::<Mersenne31>(self.layer, left, coin);
+                self.push(coin, tables);
             }
             Due::Left(left) | Due::Right(left) => {
-                product_coin::<Mersenne31>(left, coin, v, h, j);
-                self.push(coin, v, w, h, j);
+                tables.product_coin::<Mersenne31>(left, coin);
+                self.push(coin, tables);
             }
             Due::Values => {
                 *self = self.below(coin);
-                self.begin(v, w, h, j);
+                self.begin(tables);
             }
         }
     }

@@ -10,23 +10,23 @@ use super::HonestProver;
 use crate::due::Due;
 use arithmetic::mersenne::Mersenne31;
 use claims::message::Message;
-use phases::turns::{copy_answer, product_answer};
+use phases::quarters::Tables;
 
 impl<'a> HonestProver<'a> {
-    pub fn say(&self, v: &[u32], w: &[u32], h: &[u32], j: &[u32]) -> Message
-        requires { Stands 0 0 self.now v.now w.now h.now j.now }
+    pub fn say(&self, tables: &Tables) -> Message
+        requires { Stands 0 0 self.now tables.now }
         ensures answer { numbers_of result ≡ speaks self.now [] }
         ensures length { length (numbers_of result) ≡ answer_length self.now }
         ensures reduced { T (all_reduced (modulo modulus) (numbers_of result)) }
     {
         match self.due() {
             Due::Copies(left) => {
-                Message::Round(copy_answer::<Mersenne31>(self.layer, left, v, w, h))
+                Message::Round(tables.copy_answer::<Mersenne31>(self.layer, left))
             }
             Due::Left(left) | Due::Right(left) => {
-                Message::Round(product_answer::<Mersenne31>(left, v, h, j))
+                Message::Round(tables.product_answer::<Mersenne31>(left))
             }
-            Due::Values => Message::Values([self.at_x, v[0]]),
+            Due::Values => Message::Values([self.at_x, tables.v[0]]),
         }
     }
 }
