@@ -1,7 +1,7 @@
 -- The prover's stand after a coin, part by part, and at the start of the next part.
 -- What belongs to the other parts is ruled out by how many coins there are.
-use Rattle.std.proofs.Common.{◌≡◌, ℕ, suc, ◌+◌, ◌-◌, ◌*◌, ◌<◌, ◌≤◌, List, [], ◌∷◌, ◌++◌, length, take, drop, set, sym, ap, ◌∙◌, subst, arith, length-drop}
-use Rattle.std.proofs.lemmas.List.{take_more_set, take-append-le, drop-append-le, length_push, take_all, drop_all}
+use Rattle.std.proofs.Common.{◌≡◌, ℕ, suc, ◌+◌, ◌-◌, ◌*◌, ◌<◌, ◌≤◌, List, [], ◌∷◌, ◌++◌, length, take, drop, sym, ap, ◌∙◌, subst, arith, length-drop}
+use Rattle.std.proofs.lemmas.List.{take-append-le, drop-append-le, length_push, take_all, drop_all}
 use Rattle.circuits.specs.Circuit.{Layer}
 use Rattle.argument.specs.Claims.{Claim}
 use Rattle.phases.specs.Standing.{CopyTables, LeftTables, RightTables, Fixed}
@@ -9,38 +9,32 @@ use Rattle.prover.specs.Provers.{Parts}
 use Rattle.phases.proofs.TableSteps.{left_heard, right_heard}
 use Rattle.phases.proofs.TurnSteps.{one_less}
 
-pub history_more : (point : List ℕ) (drawn coin : ℕ) → drawn < length point → take (drawn + 1) (set point drawn coin) ≡ take drawn point ++ (coin ∷ [])
-history_more point drawn coin h = take_more_set point drawn coin h
-
 module _ (p : ℕ) (l : Layer) (m : ℕ) (k : Claim ℕ) (X : List ℕ) (copies : ℕ) (history : List ℕ) (factor a : ℕ) (v w h j : List ℕ)
-    (parts : Parts 0 0 p l m k X copies history factor a v w h j) (r : ℕ) (v' h' j' : List ℕ) where
+    (r : ℕ) (v' h' j' : List ℕ) where
   abbrev more : List ℕ
   more = history ++ (r ∷ [])
 
   grown : length more ≡ length history + 1
   grown = length_push history r
 
-  pub parts_copies : length history < copies → CopyTables p l m k X more (copies - length history - 1) v' w h' →
+  pub parts_copies : (n : ℕ) → 0 < n → length history + n ≡ copies → CopyTables p l m k X more (n - 1) v' w h' →
       Parts 1 1 p l m k X copies more factor a v' w h' j'
-  parts_copies few tables =
+  parts_copies n some left tables =
       let long = grown in
-      let less : copies - length history - 1 ≡ copies - length more = omega arith in
+      let less : n - 1 ≡ copies - length more = omega arith in
       record {
         over_copies = λ _. subst (λ (n : ℕ). CopyTables p l m k X more n v' w h') less tables;
         over_left = λ many _. absurd (omega arith);
         over_right = λ many. absurd (omega arith);
       }
 
-  pub parts_left : copies ≤ length history → length history < copies + m → Fixed p (copies + m - length history - 1) r v v' →
-      Fixed p (copies + m - length history - 1) r h h' → Fixed p (copies + m - length history - 1) r j j' →
-      Parts 1 1 p l m k X copies more factor a v' w h' j'
-  parts_left enough few fv fh fj =
+  pub parts_left : (n : ℕ) → 0 < n → copies ≤ length history → length history + n ≡ copies + m →
+      LeftTables p l m k X (take copies history) (drop copies history) n factor v w h j →
+      Fixed p (n - 1) r v v' → Fixed p (n - 1) r h h' → Fixed p (n - 1) r j j' → Parts 1 1 p l m k X copies more factor a v' w h' j'
+  parts_left n some enough left before fv fh fj =
       let long = grown in
-      let n : ℕ = copies + m - length history in
       let c : List ℕ = take copies history in
       let x : List ℕ = drop copies history in
-      let before = parts.over_left (omega arith) (omega arith) in
-      let some : 0 < n = omega arith in
       let at : LeftTables p l m k X c x (suc (n - 1)) factor v w h j = subst (λ (i : ℕ). LeftTables p l m k X c x i factor v w h j) (one_less n some) before in
       let after = left_heard p l m k X c x (n - 1) factor v w h j at r v' h' j' fv fh fj in
       let less : n - 1 ≡ copies + m - length more = omega arith in
@@ -55,17 +49,14 @@ module _ (p : ℕ) (l : Layer) (m : ℕ) (k : Claim ℕ) (X : List ℕ) (copies 
         over_right = λ many. absurd (omega arith);
       }
 
-  pub parts_right : copies + m ≤ length history → length history < copies + 2 * m → Fixed p (copies + 2 * m - length history - 1) r v v' →
-      Fixed p (copies + 2 * m - length history - 1) r h h' → Fixed p (copies + 2 * m - length history - 1) r j j' →
-      Parts 1 1 p l m k X copies more factor a v' w h' j'
-  parts_right enough few fv fh fj =
+  pub parts_right : (n : ℕ) → 0 < n → copies + m ≤ length history → length history + n ≡ copies + 2 * m →
+      RightTables p l m k X (take copies history) (take m (drop copies history)) (drop (copies + m) history) n a v h j →
+      Fixed p (n - 1) r v v' → Fixed p (n - 1) r h h' → Fixed p (n - 1) r j j' → Parts 1 1 p l m k X copies more factor a v' w h' j'
+  parts_right n some enough left before fv fh fj =
       let long = grown in
-      let n : ℕ = copies + 2 * m - length history in
       let c : List ℕ = take copies history in
       let x : List ℕ = take m (drop copies history) in
       let y : List ℕ = drop (copies + m) history in
-      let before = parts.over_right (omega arith) in
-      let some : 0 < n = omega arith in
       let at : RightTables p l m k X c x y (suc (n - 1)) a v h j = subst (λ (i : ℕ). RightTables p l m k X c x y i a v h j) (one_less n some) before in
       let after = right_heard p l m k X c x y (n - 1) a v h j at r v' h' j' fv fh fj in
       let less : n - 1 ≡ copies + 2 * m - length more = omega arith in
@@ -87,29 +78,6 @@ module _ (p : ℕ) (l : Layer) (m : ℕ) (k : Claim ℕ) (X : List ℕ) (copies 
 
 -- ---- where the next part begins
 module _ (p : ℕ) (l : Layer) (m : ℕ) (k : Claim ℕ) (X : List ℕ) (copies : ℕ) (history : List ℕ) (factor a : ℕ) (v w h j : List ℕ) where
-  -- elsewhere nothing is made
-  pub parts_on_left : Parts 1 1 p l m k X copies history factor a v w h j → (length history ≡ copies → ⊥) → Parts 0 1 p l m k X copies history factor a v w h j
-  parts_on_left parts other =
-      record {
-        over_copies = λ few. parts.over_copies (omega arith);
-        over_left = λ many few. parts.over_left (above other many) (omega arith);
-        over_right = λ many. parts.over_right many;
-      }
-    where
-      above : (length history ≡ copies → ⊥) → copies + 0 ≤ length history → copies + 1 ≤ length history
-      above other many = let ne : length history ≡ copies → ⊥ = other in omega (arith, ne)
-
-  pub parts_on_right : Parts 0 1 p l m k X copies history factor a v w h j → (length history ≡ copies + m → ⊥) → Parts 0 0 p l m k X copies history factor a v w h j
-  parts_on_right parts other =
-      record {
-        over_copies = λ few. parts.over_copies few;
-        over_left = λ many few. parts.over_left many (omega arith);
-        over_right = λ many. parts.over_right (above other many);
-      }
-    where
-      above : (length history ≡ copies + m → ⊥) → copies + m + 0 ≤ length history → copies + m + 1 ≤ length history
-      above other many = let ne : length history ≡ copies + m → ⊥ = other in omega (arith, ne)
-
   -- the copies' tables, all of their variables being fixed
   pub copies_fixed : Parts 1 1 p l m k X copies history factor a v w h j → length history ≡ copies → CopyTables p l m k X history 0 v w h
   copies_fixed parts all =

@@ -1,2 +1,1 @@
 pub mod Provers
-pub mod Answers

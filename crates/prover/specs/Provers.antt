@@ -1,19 +1,23 @@
 -- Where the honest prover stands: what its tables hold at its coins, what it says from here on, and how much is left of it.
 -- i and q are 1 while the tables of x, or of y, are not made yet at the coin at which their part begins.
-use Rattle.std.specs.Prelude.{◌≡◌, ℕ, ◌+◌, ◌-◌, ◌*◌, ◌^◌, ◌<◌, ◌≤◌, cond, T, List, ◌∷◌, ◌++◌, length, take, drop, Some, None, Option, nat_lt, slice_set}
-use Rattle.arithmetic.specs.Numbers.{modulo, all_reduced}
+use Rattle.std.specs.Prelude.{◌≡◌, ℕ, ◌+◌, ◌-◌, ◌*◌, ◌^◌, ◌<◌, ◌≤◌, cond, List, [], ◌∷◌, ◌++◌, length, take, drop, nat_lt}
+use Rattle.arithmetic.specs.Numbers.{modulo}
 use Rattle.circuits.specs.Circuit.{Layer, Circuit, size_below, all_values}
-use Rattle.circuits.specs.Values.{EachBelow}
 use Rattle.circuits.specs.Views.{layer_seen, layers_seen, copies_above, inputs_below, size_seen, places_below}
+use Rattle.circuits.specs.declared.view.LayersView.{LayersView}
 use Rattle.circuits.specs.Words.{modulus}
 use Rattle.argument.specs.Claims.{Claim}
 use Rattle.argument.specs.Sumcheck.{Prover}
 use Rattle.argument.specs.Argument.{first_coins, layer_coins}
 use Rattle.argument.specs.Honest.{honest_from, honest}
 use Rattle.argument.specs.Transcript.{layer_words, answer_words}
+use Rattle.claims.specs.Drawing.{coins_drawn}
 use Rattle.claims.specs.Meaning.{shares_meant}
-use Rattle.claims.specs.declared.claim.Share.{Share}
-use Rattle.phases.specs.Standing.{claim_on, Rooms, CopyTables, LeftTables, RightTables}
+use Rattle.claims.specs.declared.claim.Shares.{Shares}
+use Rattle.phases.specs.Standing.{claim_on, CopyTables, LeftTables, RightTables}
+use Rattle.phases.specs.declared.quarters.Tables.{Tables}
+use Rattle.prover.specs.declared.due.Due.{Due}
+use Rattle.prover.specs.declared.due.Due.TheVariants.{Copies, Left, Right, Values}
 use Rattle.prover.specs.declared.prover.HonestProver.{HonestProver}
 
 -- the tables of the part that the coins `history` have come to
@@ -26,6 +30,10 @@ pub record Parts (i q p : ℕ) (l : Layer) (m : ℕ) (k : Claim ℕ) (X : List �
       copies + m + q ≤ length history →
       RightTables p l m k X (take copies history) (take m (drop copies history)) (drop (copies + m) history) (copies + 2 * m - length history) a v h j
 
+-- the layers below this one
+abbrev pub rest_of : HonestProver → LayersView
+rest_of t = t.rest
+
 abbrev pub copies_of : HonestProver → ℕ
 copies_of t = copies_above t.rest
 
@@ -37,7 +45,7 @@ abbrev pub variables_of : HonestProver → ℕ
 variables_of t = copies_of t + 2 * below_of t
 
 abbrev pub claim_held : HonestProver → Claim ℕ
-claim_held t = claim_on (take (copies_of t) t.copy) (shares_meant (size_seen t.layer) t.first t.second)
+claim_held t = claim_on (take (copies_of t) t.copy) (shares_meant (size_seen t.layer) t.shares)
 
 abbrev pub values_held : HonestProver → List ℕ
 values_held t =
@@ -45,34 +53,23 @@ values_held t =
 
 -- the coins of this layer so far
 abbrev pub history : HonestProver → List ℕ
-history t = take t.drawn t.point
+history t = coins_drawn t.drawn
 
-abbrev pub SecondLong : Option Share → Type 0
-SecondLong None = Unit {0}
-SecondLong (Some s) = length s.point ≡ 16
+-- what is due, with how many variables are left of that part
+abbrev pub IsDue : HonestProver → Due → Type 0
+IsDue t (Copies n) = (0 < n) × (length (history t) + n ≡ copies_of t)
+IsDue t (Left n) = (0 < n) × (copies_of t ≤ length (history t)) × (length (history t) + n ≡ copies_of t + below_of t)
+IsDue t (Right n) = (0 < n) × (copies_of t + below_of t ≤ length (history t)) × (length (history t) + n ≡ variables_of t)
+IsDue t Values = length (history t) ≡ variables_of t
 
--- the prover's words are as they have to be, whatever its tables hold
-pub record Sound (t : HonestProver) : Type 0 where
-  pub below : below_of t ≡ size_below (layers_seen t.rest) (inputs_below t.rest)
-  pub limit_size : copies_of t + size_seen t.layer ≤ 16
-  pub limit_below : copies_of t + below_of t ≤ 16
-  pub inputs_whole : length t.inputs.now ≡ 2 ^ copies_of t * 2 ^ inputs_below t.rest
-  pub inputs_reduced : EachBelow modulus t.inputs.now
-  pub copy_long : length t.copy ≡ 16
-  pub copy_reduced : T (all_reduced (modulo modulus) t.copy)
-  pub first_long : length t.first.point ≡ 16
-  pub second_long : SecondLong t.second
-  pub point_long : length t.point ≡ 32
-  pub point_reduced : T (all_reduced (modulo modulus) t.point)
-  pub within : t.drawn ≤ variables_of t
+-- the tables are those at these coins of the layer
+abbrev pub StandsAt : ℕ → ℕ → HonestProver → List ℕ → Tables → Type 0
+StandsAt i q t coins b =
+    Parts i q modulus (layer_seen t.layer) (below_of t) (claim_held t) (values_held t) (copies_of t) coins t.factor t.at_x
+    b.v.now b.w.now b.h.now b.j.now
 
-pub record Stands (i q : ℕ) (t : HonestProver) (v w h j : List ℕ) : Type 0 where
-  pub sound : Sound t
-  pub rooms : Rooms v w h
-  pub room_j : length j ≡ 65536
-  pub parts :
-      Parts i q modulus (layer_seen t.layer) (below_of t) (claim_held t) (values_held t) (copies_of t) (history t) t.factor t.at_x
-      v w h j
+abbrev pub Stands : ℕ → ℕ → HonestProver → Tables → Type 0
+Stands i q t b = StandsAt i q t (history t) b
 
 -- what it says from here on, as a function of the coins to come
 abbrev pub speaks : HonestProver → Prover ℕ
@@ -82,62 +79,16 @@ speaks t later =
 
 -- how many coins are still to come, and how many words of answers
 abbrev pub coins_left : HonestProver → ℕ
-coins_left t = (variables_of t - t.drawn + 1) + layer_coins (copies_of t) (layers_seen t.rest) (inputs_below t.rest)
+coins_left t =
+    (variables_of t - length (history t) + 1) + layer_coins (copies_of t) (layers_seen t.rest) (inputs_below t.rest)
 
 abbrev pub words_left : HonestProver → ℕ
-words_left t = (4 * (variables_of t - t.drawn) + 2) + layer_words (copies_of t) (layers_seen t.rest) (inputs_below t.rest)
-
--- one coin more
-abbrev pub pushed : ℕ → HonestProver → HonestProver
-pushed coin t =
-    record {
-      layer = t.layer;
-      rest = t.rest;
-      inputs = t.inputs;
-      copy = t.copy;
-      first = t.first;
-      second = t.second;
-      point = slice_set t.point t.drawn coin;
-      drawn = t.drawn + 1;
-      factor = t.factor;
-      at_x = t.at_x;
-    }
-
--- with the factor of the part of x
-abbrev pub with_factor : ℕ → HonestProver → HonestProver
-with_factor factor t =
-    record {
-      layer = t.layer;
-      rest = t.rest;
-      inputs = t.inputs;
-      copy = t.copy;
-      first = t.first;
-      second = t.second;
-      point = t.point;
-      drawn = t.drawn;
-      factor = factor;
-      at_x = t.at_x;
-    }
-
--- with the value at x
-abbrev pub with_value : ℕ → HonestProver → HonestProver
-with_value value t =
-    record {
-      layer = t.layer;
-      rest = t.rest;
-      inputs = t.inputs;
-      copy = t.copy;
-      first = t.first;
-      second = t.second;
-      point = t.point;
-      drawn = t.drawn;
-      factor = t.factor;
-      at_x = value;
-    }
+words_left t =
+    (4 * (variables_of t - length (history t)) + 2) + layer_words (copies_of t) (layers_seen t.rest) (inputs_below t.rest)
 
 -- how many numbers the next answer has
 abbrev pub answer_length : HonestProver → ℕ
-answer_length t = cond (nat_lt t.drawn (variables_of t)) 4 2
+answer_length t = cond (nat_lt (length (history t)) (variables_of t)) 4 2
 
 -- a prover that goes on as another does
 pub record Alike (t r : HonestProver) : Type 0 where
@@ -151,10 +102,20 @@ pub record Heard (coin : ℕ) (t r : HonestProver) : Type 0 where
   pub coins : coins_left t ≡ coins_left r + 1
   pub words : words_left t ≡ answer_length t + words_left r
 
+-- a prover at the first of these layers, with a claim about it, before any coin
+pub record Begins (ls : LayersView) (vs copy : List ℕ) (shares : Shares) (r : HonestProver) : Type 0 where
+  pub says :
+      (later : List ℕ) →
+      speaks r later ≡
+      honest_from (modulo modulus) (copies_above ls) (layers_seen ls) (inputs_below ls) vs
+      (claim_on (take (copies_above ls) copy) (shares_meant (size_below (layers_seen ls) (inputs_below ls)) shares)) later
+  pub coins : coins_left r ≡ layer_coins (copies_above ls) (layers_seen ls) (inputs_below ls)
+  pub words : words_left r ≡ layer_words (copies_above ls) (layers_seen ls) (inputs_below ls)
+  pub none : history r ≡ []
+
 -- a prover at the outputs' layer, after the first of these coins
 pub record Opened (c : Circuit) (vs coins : List ℕ) (r : HonestProver) : Type 0 where
-  pub sound : Sound r
-  pub none : r.drawn ≡ 0
+  pub none : history r ≡ []
   pub says : (later : List ℕ) → speaks r later ≡ honest (modulo modulus) c vs (take (first_coins c) coins ++ later)
   pub coins_are : coins_left r ≡ layer_coins c.copies c.layers c.inputs
   pub words_are : words_left r ≡ answer_words c

@@ -2,11 +2,5 @@
 // Its tables are halved after each coin, so that a layer takes time in proportion to the gates of all copies.
 #![tactic(auto)]
 
-pub mod answer;
-pub mod coins;
-pub mod hearing;
-pub mod opening;
+pub mod due;
 pub mod prover;
-pub mod saying;
-pub mod settling;
-pub mod shares;
