@@ -22,13 +22,14 @@ impl<'a> Reader<'a> {
     pub fn next(&mut self) -> Result<Option<u32>, TextError>
         ensures { Next (left self.old) result (left self.new) }
     {
-        let start = word_start(self.text, self.at);
-        if start == self.text.len() {
-            self.at = start;
+        let rest = &self.text[self.at..];
+        let start = word_start(rest);
+        if start == rest.len() {
+            self.at = self.text.len();
             return Ok(None);
         }
-        let (number, end) = read_word(self.text, start)?;
-        self.at = end;
+        let (number, len) = read_word(&rest[start..])?;
+        self.at += start + len;
         Ok(Some(number))
     }
 }
