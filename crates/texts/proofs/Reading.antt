@@ -1,11 +1,14 @@
 -- From the machine's steps to what the reader answers of a text.
 -- The number read stands before those of what is left.
-use Rattle.std.proofs.Common.{◌≡◌, ℕ, ◌+◌, ◌<◌, ◌≤◌, List, [], ◌∷◌, ◌++◌, length, get_or, drop, set, Some, None, Ok, Option, sym, refl, ap, ◌∙◌, subst, append_assoc, append-nil, arith, length-drop}
+use Rattle.std.proofs.Common.{◌≡◌, ℕ, ◌+◌, ◌<◌, ◌≤◌, List, [], ◌∷◌, ◌++◌, length, get_or, drop, set, Some, None, Ok, Err, Option, sym, refl, ap, ◌∙◌, append_assoc, append-nil, arith, length-drop}
 use Rattle.std.specs.Option.{option_map}
 use Rattle.std.proofs.lemmas.List.{drop_all, drop-drop, drop_more, length_push, set_at}
 use Rattle.texts.specs.Answers.{Next}
 use Rattle.texts.specs.Machine.{first, between, with, read_from}
-use Rattle.texts.specs.Texts.{numbers_of}
+use Rattle.std.proofs.lemmas.Option.{none-some}
+use Rattle.texts.specs.Texts.{first_piece, later_pieces, filled, numbers_in, numbers_of}
+use Rattle.texts.specs.declared.error.TextError.{TextError}
+use Rattle.texts.specs.declared.error.TextError.TheVariants.{NoNumber, TooMany, NoMemory}
 use Rattle.texts.proofs.Meaning.{numbers_of_is}
 
 -- a is where the reader stands, and s how far from there the next word begins
@@ -24,6 +27,14 @@ module _ (text : List ℕ) (a s : ℕ) (found : read_from between (drop s (drop 
         numbers_of_is (drop a text) ∙ sym found ∙ is ∙ ap (λ l. with n (read_from first l)) after ∙ ap (with n) (sym (numbers_of_is (drop (a + (s + e)) text))),
         simp length-drop (omega (arith, simp length-drop at within)),
       )
+
+-- a text that is refused is not empty
+pub refused_some : (text : List ℕ) (e : TextError) (rest : List ℕ) → Next text (Err e) rest → 0 < length text
+unfolding numbers_of numbers_in first_piece later_pieces filled
+refused_some [] NoNumber rest so = absurd (none-some [] (sym so.0))
+refused_some (c ∷ text) NoNumber rest so = omega arith
+refused_some text TooMany rest so = absurd so
+refused_some text (NoMemory e) rest so = absurd so
 
 -- ---- all numbers
 -- numbers read already, before those of what is left
@@ -70,6 +81,3 @@ filled_more text left room filled count n left' filled' so next less put = recor
       put room-left ∙ ap (λ l. set l count n) was ∙ set_at so.numbers (get_or room count 0) (drop (count + 1) room) n count (sym so.counted) ∙ sym (append_assoc so.numbers (n ∷ []) (drop (count + 1) room));
   apart = omega (arith, so.apart);
 }
-
-pub at_number : (text rest : List ℕ) (o : Option ℕ) (n : ℕ) → o ≡ Some n → Next text (Ok o) rest → (numbers_of text ≡ with n (numbers_of rest)) × (length rest < length text)
-at_number text rest o n is next = subst (λ (x : Option ℕ). Next text (Ok x) rest) is next

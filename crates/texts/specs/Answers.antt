@@ -22,6 +22,12 @@ Next text (Err NoNumber) rest = (numbers_of text ≡ None) × (rest ≡ text)
 Next text (Err TooMany) rest = ⊥
 Next text (Err (NoMemory e)) rest = ⊥
 
+-- the same number after number: after an error nothing more comes
+abbrev pub Gives : List ℕ → Option (Result ℕ TextError) → List ℕ → Type 0
+Gives text None rest = Next text (Ok None) rest
+Gives text (Some (Ok n)) rest = Next text (Ok (Some n)) rest
+Gives text (Some (Err e)) rest = (e ≡ NoNumber) × (numbers_of text ≡ None) × (rest ≡ [])
+
 -- what an error says of a text of which all numbers are wanted, as many as they are
 abbrev pub Unread : List ℕ → TextError → Type 0
 Unread text NoNumber = numbers_of text ≡ None

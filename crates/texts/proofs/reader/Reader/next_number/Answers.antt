@@ -4,7 +4,7 @@ use Rattle.std.proofs.Math.Seq.{drop-length}
 use Rattle.std.proofs.lemmas.List.{take_rest}
 use Rattle.std.proofs.lemmas.Result.{err_from_is_err_and}
 use Rattle.texts.proofs.Reading.{none_left, one_read, none_read}
-use Rattle.texts.proofs.reader.Reader.next.Goals as goal
+use Rattle.texts.proofs.reader.Reader.next_number.Goals as goal
 
 pub returns-then-start-rest : goal.returns-then-start-rest
 returns-then-start-rest c = (
