@@ -1,28 +1,40 @@
 -- From the machine's steps to what the reader answers of a text.
 -- The number read stands before those of what is left.
-use Rattle.std.proofs.Common.{◌≡◌, ℕ, ◌+◌, ◌<◌, ◌≤◌, List, [], ◌∷◌, ◌++◌, length, get_or, drop, set, Some, None, Ok, Option, sym, refl, ap, ◌∙◌, subst, append_assoc, append-nil, arith, length-drop}
+use Rattle.std.proofs.Common.{◌≡◌, ℕ, ◌+◌, ◌<◌, ◌≤◌, List, [], ◌∷◌, ◌++◌, length, get_or, drop, set, Some, None, Ok, Err, Option, sym, refl, ap, ◌∙◌, append_assoc, append-nil, arith, length-drop}
 use Rattle.std.specs.Option.{option_map}
-use Rattle.std.proofs.lemmas.List.{drop_all, drop_more, length_push, set_at}
+use Rattle.std.proofs.lemmas.List.{drop_all, drop-drop, drop_more, length_push, set_at}
 use Rattle.texts.specs.Answers.{Next}
 use Rattle.texts.specs.Machine.{first, between, with, read_from}
-use Rattle.texts.specs.Texts.{numbers_of}
+use Rattle.std.proofs.lemmas.Option.{none-some}
+use Rattle.texts.specs.Texts.{first_piece, later_pieces, filled, numbers_in, numbers_of}
+use Rattle.texts.specs.declared.error.TextError.{TextError}
+use Rattle.texts.specs.declared.error.TextError.TheVariants.{NoNumber, TooMany, NoMemory}
 use Rattle.texts.proofs.Meaning.{numbers_of_is}
 
--- a is where the reader stands, s where the next word begins, and e where it ends
-module _ (text : List ℕ) (a s : ℕ) (found : read_from between (drop s text) ≡ read_from first (drop a text)) where
-  pub none_left : s ≡ length text → (numbers_of (drop a text) ≡ Some []) × (drop s text ≡ [])
+-- a is where the reader stands, and s how far from there the next word begins
+module _ (text : List ℕ) (a s : ℕ) (found : read_from between (drop s (drop a text)) ≡ read_from first (drop a text)) where
+  pub none_left : s ≡ length (drop a text) → numbers_of (drop a text) ≡ Some []
   unfolding read_from
-  none_left end =
-      let none = drop_all s text (omega arith) in (numbers_of_is (drop a text) ∙ sym found ∙ ap (read_from between) none, none)
+  none_left end = numbers_of_is (drop a text) ∙ sym found ∙ ap (read_from between) (drop_all s (drop a text) (omega arith))
 
-  pub one_read : (e n : ℕ) → read_from between (drop s text) ≡ with n (read_from first (drop e text)) → numbers_of (drop a text) ≡ with n (numbers_of (drop e text))
-  one_read e n is = numbers_of_is (drop a text) ∙ sym found ∙ is ∙ ap (with n) (sym (numbers_of_is (drop e text)))
-
-  pub none_read : read_from between (drop s text) ≡ None → numbers_of (drop a text) ≡ None
+  pub none_read : read_from between (drop s (drop a text)) ≡ None → numbers_of (drop a text) ≡ None
   none_read is = numbers_of_is (drop a text) ∙ sym found ∙ is
 
-pub less_left : (text : List ℕ) (a e : ℕ) → a < e → e ≤ length text → length (drop e text) < length (drop a text)
-less_left text a e more within = simp length-drop (omega arith)
+  -- the word has e bytes, and writes n
+  pub one_read : (e n : ℕ) → 0 < e → e ≤ length (drop s (drop a text)) → read_from between (drop s (drop a text)) ≡ with n (read_from first (drop e (drop s (drop a text)))) → Next (drop a text) (Ok (Some n)) (drop (a + (s + e)) text)
+  one_read e n some within is =
+      let after : drop e (drop s (drop a text)) ≡ drop (a + (s + e)) text = drop-drop e s (drop a text) ∙ drop-drop (s + e) a text in (
+        numbers_of_is (drop a text) ∙ sym found ∙ is ∙ ap (λ l. with n (read_from first l)) after ∙ ap (with n) (sym (numbers_of_is (drop (a + (s + e)) text))),
+        simp length-drop (omega (arith, simp length-drop at within)),
+      )
+
+-- a text that is refused is not empty
+pub refused_some : (text : List ℕ) (e : TextError) (rest : List ℕ) → Next text (Err e) rest → 0 < length text
+unfolding numbers_of numbers_in first_piece later_pieces filled
+refused_some [] NoNumber rest so = absurd (none-some [] (sym so.0))
+refused_some (c ∷ text) NoNumber rest so = omega arith
+refused_some text TooMany rest so = absurd so
+refused_some text (NoMemory e) rest so = absurd so
 
 -- ---- all numbers
 -- numbers read already, before those of what is left
@@ -69,6 +81,3 @@ filled_more text left room filled count n left' filled' so next less put = recor
       put room-left ∙ ap (λ l. set l count n) was ∙ set_at so.numbers (get_or room count 0) (drop (count + 1) room) n count (sym so.counted) ∙ sym (append_assoc so.numbers (n ∷ []) (drop (count + 1) room));
   apart = omega (arith, so.apart);
 }
-
-pub at_number : (text rest : List ℕ) (o : Option ℕ) (n : ℕ) → o ≡ Some n → Next text (Ok o) rest → (numbers_of text ≡ with n (numbers_of rest)) × (length rest < length text)
-at_number text rest o n is next = subst (λ (x : Option ℕ). Next text (Ok x) rest) is next

@@ -4,7 +4,12 @@ use Rattle.std.proofs.Common.{◌≡◌, ℕ, ◌+◌, ◌-◌, ◌*◌, ◌<◌
 use Rattle.std.proofs.lemmas.List.{drop_more, drop_all}
 use Rattle.std.proofs.lemmas.Bool.{cases_lt, eq-eqb, ne_eqb, eqb-true, or_cases, or_parts, both_ways}
 use Rattle.texts.specs.Machine.{Place, first, between, comment, word, with, read_from}
+use Rattle.std.specs.Bool.{then_some}
 use Rattle.texts.specs.Texts.{is_line_end, is_space, is_gap, is_digit, capped}
+use Rattle.texts.specs.Gaps.{gap_place, Past}
+use Rattle.texts.specs.declared.gap.Gap.{Gap}
+use Rattle.texts.specs.declared.gap.Gap.TheVariants.{First, Between, Comment}
+use Rattle.texts.proofs.Meaning.{by_test}
 
 -- ---- bytes
 -- a space is neither a line end nor #
@@ -17,50 +22,41 @@ space_no_line_end c s = ne_eqb c 10 (λ e. ⊎_elim (λ (h : c ≡ 32). omega ar
 pub space_no_hash : (c : ℕ) → is_space c ≡ true → eqb c 35 ≡ false
 space_no_hash c s = ne_eqb c 35 (λ e. ⊎_elim (λ (h : c ≡ 32). omega arith) (λ (h : c ≡ 13). omega arith) (space_is c s))
 
--- ---- comments
-pub comment_goes_on : (text : List ℕ) (i : ℕ) → i < length text → (get_or text i 0 ≡ 10 → ⊥) → read_from comment (drop (i + 1) text) ≡ read_from comment (drop i text)
-unfolding read_from
-comment_goes_on text i h other =
-    let e : is_line_end (get_or text i 0) ≡ false = ne_eqb (get_or text i 0) 10 other in rw (drop_more text i 0 h, e) refl
-
-pub comment_ends : (text : List ℕ) (i : ℕ) → (i < length text → get_or text i 0 ≡ 10) → read_from between (drop i text) ≡ read_from comment (drop i text)
-unfolding read_from
-comment_ends text i stops =
-    ⊎_elim
-    (λ (h : i < length text). let e : is_line_end (get_or text i 0) ≡ true = eq-eqb (get_or text i 0) 10 (stops h) in rw (drop_more text i 0 h, e) refl)
-    (λ (h : length text ≤ i). rw (drop_all i text h) refl)
-    (cases_lt i (length text))
-
 -- ---- between words
 -- a place in a line that is in no word and in no comment: at its beginning, or later
 abbrev pub outside : Bool → Place
 outside at_first = cond at_first first between
 
-pub past_line_end : (b : Bool) (text : List ℕ) (i : ℕ) → i < length text → get_or text i 0 ≡ 10 → read_from first (drop (i + 1) text) ≡ read_from (outside b) (drop i text)
+pub past_line_end : (g : Gap) (c : ℕ) (rest : List ℕ) → c ≡ 10 → read_from (gap_place g) (c ∷ rest) ≡ read_from first rest
 unfolding read_from
-past_line_end true text i h is = rw (drop_more text i 0 h, eq-eqb (get_or text i 0) 10 is) refl
-past_line_end false text i h is = rw (drop_more text i 0 h, eq-eqb (get_or text i 0) 10 is) refl
+past_line_end First c rest e = rw (eq-eqb c 10 e) refl
+past_line_end Between c rest e = rw (eq-eqb c 10 e) refl
+past_line_end Comment c rest e = rw (eq-eqb c 10 e) refl
 
-pub past_space : (b : Bool) (text : List ℕ) (i : ℕ) → i < length text → is_space (get_or text i 0) ≡ true → read_from between (drop (i + 1) text) ≡ read_from (outside b) (drop i text)
+pub past_comment : (g : Gap) (c : ℕ) (rest : List ℕ) → g ≡ Comment → (c ≡ 10 → ⊥) → read_from (gap_place g) (c ∷ rest) ≡ read_from comment rest
 unfolding read_from
-past_space true text i h s = rw (drop_more text i 0 h, space_no_line_end (get_or text i 0) s, space_no_hash (get_or text i 0) s, s) refl
-past_space false text i h s = rw (drop_more text i 0 h, space_no_line_end (get_or text i 0) s, s) refl
+past_comment g c rest is other = rw (is, ne_eqb c 10 other) refl
 
-pub past_hash : (text : List ℕ) (i : ℕ) → i < length text → get_or text i 0 ≡ 35 → read_from comment (drop (i + 1) text) ≡ read_from first (drop i text)
+pub past_hash : (g : Gap) (c : ℕ) (rest : List ℕ) → g ≡ First → c ≡ 35 → read_from (gap_place g) (c ∷ rest) ≡ read_from comment rest
 unfolding read_from
-past_hash text i h is =
-    let e : is_line_end (get_or text i 0) ≡ false = ne_eqb (get_or text i 0) 10 (λ k. omega arith) in
-    rw (drop_more text i 0 h, e, eq-eqb (get_or text i 0) 35 is) refl
+past_hash g c rest is e = rw (is, ne_eqb c 10 (λ k. omega arith), eq-eqb c 35 e) refl
 
--- where neither a gap nor a comment stands, the beginning of a line is like any place in it
-pub outside_word : (b : Bool) (text : List ℕ) (i : ℕ) → (b ≡ true → i < length text → get_or text i 0 ≡ 35 → ⊥) → read_from between (drop i text) ≡ read_from (outside b) (drop i text)
+-- a space, or the first byte of a word
+pub past_other : (g : Gap) (c : ℕ) → (c ≡ 10 → ⊥) → (g ≡ Comment → ⊥) → (g ≡ First → c ≡ 35 → ⊥) → Past g c (then_some (is_space c) Between)
 unfolding read_from
-outside_word false text i other = refl
-outside_word true text i other =
-    ⊎_elim
-    (λ (h : i < length text). rw (drop_more text i 0 h, ne_eqb (get_or text i 0) 35 (other refl h)) refl)
-    (λ (h : length text ≤ i). rw (drop_all i text h) refl)
-    (cases_lt i (length text))
+past_other First c line inside hash =
+    by_test (is_space c)
+    (λ s. rw s (λ rest. rw (ne_eqb c 10 line, ne_eqb c 35 (hash refl), s) refl))
+    (λ s. rw s (rw (ne_eqb c 10 line, s) refl, λ rest. rw (ne_eqb c 10 line, ne_eqb c 35 (hash refl), s) refl))
+past_other Between c line inside hash =
+    by_test (is_space c) (λ s. rw s (λ rest. rw (ne_eqb c 10 line, s) refl)) (λ s. rw s (rw (ne_eqb c 10 line, s) refl, λ rest. refl))
+past_other Comment c line inside hash = absurd (inside refl)
+
+pub gaps_alone : (g : Gap) (text : List ℕ) (i : ℕ) → length text ≤ i → read_from (gap_place g) (drop i text) ≡ read_from first text → read_from between (drop (length text) text) ≡ read_from first text
+unfolding read_from
+gaps_alone First text i end so = rw (drop_all (length text) text (omega arith)) (rw (drop_all i text end) at so)
+gaps_alone Between text i end so = rw (drop_all (length text) text (omega arith)) (rw (drop_all i text end) at so)
+gaps_alone Comment text i end so = rw (drop_all (length text) text (omega arith)) (rw (drop_all i text end) at so)
 
 -- ---- words
 pub word_begins : (text : List ℕ) (i : ℕ) → i < length text → is_gap (get_or text i 0) ≡ false → read_from (word 0) (drop i text) ≡ read_from between (drop i text)
@@ -105,3 +101,7 @@ word_ends n text i stops =
     (λ (h : i < length text). rw (drop_more text i 0 h) (at_gap n (get_or text i 0) (drop (i + 1) text) (stops h)))
     (λ (h : length text ≤ i). rw (drop_all i text h) refl)
     (cases_lt i (length text))
+
+pub word_whole : (n : ℕ) (text : List ℕ) (i : ℕ) → length text ≤ i → read_from (word n) (drop i text) ≡ with n (read_from first (drop (length text) text))
+unfolding read_from
+word_whole n text i end = rw (drop_all i text end, drop_all (length text) text (omega arith)) refl

@@ -1,16 +1,12 @@
 -- A line of numbers grows at its end: a gap, and the digits of one number more, with no gap before the first.
 -- Many numbers go line by line: k of them, a line end, and what is left.
-use Rattle.std.proofs.Common.{◌≡◌, ℕ, zero, suc, ◌+◌, ◌<◌, ◌≤◌, min, true, List, [], ◌∷◌, ◌++◌, length, get_or, take, drop, is_ok, Ok, decimal, Result, sym, refl, ap, ◌∙◌, ⊎_elim, append_assoc, append-nil, arith, length-drop}
+use Rattle.std.proofs.Common.{◌≡◌, ℕ, zero, suc, ◌+◌, ◌<◌, ◌≤◌, min, List, [], ◌∷◌, ◌++◌, length, get_or, take, drop, decimal, sym, refl, ap, ◌∙◌, ⊎_elim, append_assoc, append-nil, arith, length-drop}
 use Rattle.std.proofs.Output.{writes_in_calls_nil, has_written_append, has_written_of_eq}
-use Rattle.std.proofs.lemmas.List.{take_more, take_all, drop_all}
+use Rattle.std.proofs.lemmas.List.{take_more, take_all, drop_all, take_at, drop_at}
 use Rattle.std.proofs.lemmas.Bool.{cases_lt}
 use Rattle.std.specs.Fmt.{IsPlainFormatter, HasWritten}
 use Rattle.std.specs.declared.fmt.Formatter.{Formatter}
 use Rattle.texts.specs.Texts.{line_of, lines_by, lines_of}
-
--- a call that answered `Ok`, as the clauses on what is written want it
-pub is_ok_of_ok : {T E : Type 0} (r : Result T E) (x : T) → r ≡ Ok x → is_ok r ≡ true
-is_ok_of_ok r x e = ap is_ok e
 
 -- what stands between these numbers and the next
 abbrev pub gap_after : List ℕ → List ℕ
@@ -72,14 +68,18 @@ pub record Laid {W : Type 0} (took : W → List ℕ → W → Type 0) (f : Forma
   pub put : IsPlainFormatter f → HasWritten took f written g
 
 module _ {W : Type 0} (took : W → List ℕ → W → Type 0) (f : Formatter W) (k : ℕ) where
-  pub laid_none : (all : List ℕ) → Laid took f k all all f
-  laid_none all = record { written = []; whole = refl; put = λ plain. record { wrote = writes_in_calls_nil took f.writer; plain = plain } }
+  pub laid_none : (all left : List ℕ) → left ≡ all → Laid took f k all left f
+  laid_none all left same = record {
+    written = [];
+    whole = ap (lines_of k) same;
+    put = λ plain. record { wrote = writes_in_calls_nil took f.writer; plain = plain };
+  }
 
-  pub laid_more : (all left line left' : List ℕ) (m : ℕ) (g g' : Formatter W) → 0 < k → 0 < length left → m ≡ min k (length left) → line ≡ take m left → left' ≡ drop m left → Laid took f k all left g → (IsPlainFormatter g → HasWritten took g (line_of line ++ (10 ∷ [])) g') → Laid took f k all left' g'
-  laid_more all left line left' m g g' some more least front back so next =
-      let cut = cut_at k m left least in
-      let whole-front : line ≡ take k left = front ∙ cut.0 in
-      let whole_back : left' ≡ drop k left = back ∙ cut.1 in
+  pub laid_more : (all left line left' : List ℕ) (g g' : Formatter W) → 0 < k → 0 < length left → left ≡ line ++ left' → length line ≡ min k (length left) → Laid took f k all left g → (IsPlainFormatter g → HasWritten took g (line_of line ++ (10 ∷ [])) g') → Laid took f k all left' g'
+  laid_more all left line left' g g' some more parts least so next =
+      let cut = cut_at k (length line) left least in
+      let whole-front : line ≡ take k left = sym (take_at line left' (length line) refl) ∙ ap (take (length line)) (sym parts) ∙ cut.0 in
+      let whole_back : left' ≡ drop k left = sym (drop_at line left' (length line) refl) ∙ ap (drop (length line)) (sym parts) ∙ cut.1 in
       record {
         written = so.written ++ (line_of line ++ (10 ∷ []));
         whole =

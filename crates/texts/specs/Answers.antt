@@ -1,15 +1,17 @@
--- What each answer of the reader says of the text, and the number of each of its refusals.
+-- What each answer of the reader says of the text, and which refusal each of its errors is.
 -- A text that has no numbers, because a word of it is none, is not the text that has no word at all.
 use Rattle.std.specs.Prelude.{◌≡◌, ℕ, ◌<◌, ◌≤◌, List, [], ◌∷◌, ◌++◌, length, drop, Some, None, Ok, Err, Option, Result}
 use Rattle.std.specs.Option.{option_map}
+use Rattle.refusals.specs.declared.Refusal.{Refusal}
+use Rattle.refusals.specs.declared.Refusal.TheVariants.{WrongCount, UnknownForm}
 use Rattle.texts.specs.Texts.{numbers_of}
 use Rattle.texts.specs.declared.error.TextError.{TextError}
 use Rattle.texts.specs.declared.error.TextError.TheVariants.{NoNumber, TooMany, NoMemory}
 
--- 5 is a text of no known form, 2 not as many numbers as it takes; want of memory has no number
-abbrev pub refusal_of : TextError → Option ℕ
-refusal_of NoNumber = Some 5
-refusal_of TooMany = Some 2
+-- a text of no known form, or not as many numbers as it takes; want of memory is no refusal
+abbrev pub refusal_of : TextError → Option Refusal
+refusal_of NoNumber = Some UnknownForm
+refusal_of TooMany = Some WrongCount
 refusal_of (NoMemory e) = None
 
 -- the next number of a text, and what is left of the text after it
@@ -19,6 +21,12 @@ Next text (Ok None) rest = (numbers_of text ≡ Some []) × (rest ≡ [])
 Next text (Err NoNumber) rest = (numbers_of text ≡ None) × (rest ≡ text)
 Next text (Err TooMany) rest = ⊥
 Next text (Err (NoMemory e)) rest = ⊥
+
+-- the same number after number: after an error nothing more comes
+abbrev pub Gives : List ℕ → Option (Result ℕ TextError) → List ℕ → Type 0
+Gives text None rest = Next text (Ok None) rest
+Gives text (Some (Ok n)) rest = Next text (Ok (Some n)) rest
+Gives text (Some (Err e)) rest = (e ≡ NoNumber) × (numbers_of text ≡ None) × (rest ≡ [])
 
 -- what an error says of a text of which all numbers are wanted, as many as they are
 abbrev pub Unread : List ℕ → TextError → Type 0

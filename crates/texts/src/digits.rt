@@ -25,7 +25,7 @@ pub fn is_gap(byte: u8) -> bool
 pub fn is_digit(byte: u8) -> bool
     ensures { result ≡ is_digit byte }
 {
-    b'0' <= byte && byte <= b'9'
+    byte.is_ascii_digit()
 }
 
 // The number with one more digit at its end.
@@ -33,10 +33,5 @@ pub fn append_digit(number: u32, digit: u8) -> u32
     requires { digit ≤ 9 }
     ensures { result ≡ capped (10 * number + digit) }
 {
-    let wide = 10 * number as u64 + digit as u64;
-    if wide > u32::MAX as u64 {
-        u32::MAX
-    } else {
-        wide as u32
-    }
+    number.saturating_mul(10).saturating_add(u32::from(digit))
 }

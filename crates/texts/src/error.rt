@@ -1,10 +1,11 @@
 // Why a text gives no numbers.
-// specs/Answers.antt gives each case its number among the refusals.
+// specs/Answers.antt says which refusal each case is.
 ghost use Rattle.std.specs.Prelude.{◌≡◌};
 ghost use Rattle.texts.specs.Answers.{refusal_of};
 ghost use Rattle.std.specs.declared.alloc.AllocError.{AllocError};
 ghost use Rattle.texts.specs.declared.error.TextError.TheVariants.{NoMemory};
 
+use refusals::Refusal;
 use std::alloc::{AllocError, AllocFailed};
 
 #[derive(Clone, Copy, PartialEq, Eq, Debug)]
@@ -17,13 +18,13 @@ pub enum TextError {
 }
 
 impl TextError {
-    // Its number among the refusals.
-    pub fn refusal(self) -> Option<u8>
+    // The refusal that it is, if it is one.
+    pub fn refusal(self) -> Option<Refusal>
         ensures { result ≡ refusal_of self }
     {
         match self {
-            TextError::NoNumber => Some(5),
-            TextError::TooMany => Some(2),
+            TextError::NoNumber => Some(Refusal::UnknownForm),
+            TextError::TooMany => Some(Refusal::WrongCount),
             TextError::NoMemory(_) => None,
         }
     }

@@ -4,6 +4,7 @@
 
 pub mod digits;
 pub mod error;
+pub mod gap;
 pub mod line;
 pub mod lines;
 pub mod reader;

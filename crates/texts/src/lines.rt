@@ -18,12 +18,9 @@ impl fmt::Display for Lines<'_> {
     ghost output = { λ x. Some (lines_of 16 x.numbers.now) };
 
     fn fmt<W: fmt::Write>(&self, f: &mut fmt::Formatter<W>) -> fmt::Result {
-        let mut rest = self.numbers;
-        while !rest.is_empty() {
-            let (numbers, after) = rest.split_at(PER_LINE.min(rest.len()));
+        for numbers in self.numbers.chunks(PER_LINE) {
             let line = Line { numbers };
             writeln!(f, "{line}")?;
-            rest = after;
         }
         Ok(())
     }

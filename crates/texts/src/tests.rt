@@ -3,6 +3,7 @@
 use crate::error::TextError;
 use crate::whole::{read_into, read_numbers};
 use crate::written::{write_line, write_lines};
+use refusals::Refusal;
 use std::test::Fail;
 
 // How many numbers a text holds, where four are room enough.
@@ -47,7 +48,8 @@ fn words_that_are_no_numbers(rt: HostRuntime) {
     for text in texts {
         assert_eq!(rt; count(text), Err(TextError::NoNumber));
     }
-    assert_eq!(rt; TextError::NoNumber.refusal(), Some(5));
+    let refusal = TextError::NoNumber.refusal();
+    assert_eq!(rt; refusal.map(Refusal::number), Some(5));
 }
 
 #[test]

@@ -12,10 +12,9 @@ use std::alloc::Global;
 pub fn read_numbers(heap: Global, text: &[u8]) -> Result<Vec<u32>, TextError>
     ensures { MatchResult result (λ v. numbers_of text.now ≡ Some v.items) (Unread text.now) }
 {
-    let mut reader = Reader::new(text);
     let mut numbers = Vec::new(heap);
-    while let Some(number) = reader.next()? {
-        numbers.push(number)?;
+    for number in Reader::new(text) {
+        numbers.push(number?)?;
     }
     Ok(numbers)
 }
@@ -26,9 +25,9 @@ pub fn read_numbers(heap: Global, text: &[u8]) -> Result<Vec<u32>, TextError>
 pub fn read_into(text: &[u8], room: &mut [u32]) -> Result<usize, TextError>
     ensures { ReadInto text.now room.old result room.new }
 {
-    let mut reader = Reader::new(text);
     let mut count = 0;
-    while let Some(number) = reader.next()? {
+    for number in Reader::new(text) {
+        let number = number?;
         if count < room.len() {
             room[count] = number;
         }

@@ -1,7 +1,6 @@
--- What the lines show is the text, and the theorem on reading it again holds.
-use Rattle.std.proofs.Common.{rules}
+-- The theorem on reading lines again holds.
 use Rattle.texts.proofs.RoundTrip.{round_trip as read_again}
 use Rattle.texts.proofs.written.write_lines.Goals as goal
 
-pub returns : goal.returns
-returns c = record { text = search rules; round_trip = read_again }
+pub returns-clause-round_trip : goal.returns-clause-round_trip
+returns-clause-round_trip c = read_again

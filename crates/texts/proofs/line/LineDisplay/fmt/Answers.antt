@@ -1,12 +1,11 @@
 -- Each turn writes a gap and a number, and so the line of one number more.
 -- At the end it is the line of all.
-use Rattle.std.proofs.Common.{◌≡◌, ℕ, ◌+◌, List, [], ◌∷◌, ◌++◌, get_or, take, decimal, sym, refl, ap, ◌∙◌}
+use Rattle.std.proofs.Common.{◌≡◌, ℕ, ◌+◌, true, List, [], ◌∷◌, ◌++◌, get_or, take, decimal, sym, refl, ap, ◌∙◌}
 use lib.Utf8.{encode}
 use Rattle.std.proofs.Output.{writes_in_calls_nil, has_written_append, has_written_of_eq}
 use Rattle.std.proofs.lemmas.List.{take_all}
-use Rattle.std.specs.Fmt.{HasWritten}
 use Rattle.texts.specs.Texts.{line_of}
-use Rattle.texts.proofs.Writing.{is_ok_of_ok, line_more, gap_more}
+use Rattle.texts.proofs.Writing.{line_more, gap_more}
 use Rattle.texts.proofs.line.LineDisplay.fmt.Goals as goal
 
 pub loop-number-init : goal.loop-number-init
@@ -23,8 +22,7 @@ loop-number-preserved g c =
       sym (gap_more ns i c.loop-number-test.true),
       λ plain.
           let so = c.loop-number.invariant.2 plain in
-          let more : HasWritten g.W.Write.write_str_gives c.loop-number.f (c.loop-number.gap.now ++ decimal (get_or ns i 0)) c.write.new.self = c.write.ensures.writes so.plain (is_ok_of_ok c.write.result c.in_ok-write.field-0 c.in_ok-write.was) in
-          has_written_of_eq g.W.Write.write_str_gives c.args.f.now (line_of (take i ns) ++ (c.loop-number.gap.now ++ decimal (get_or ns i 0))) (line_of (take (i + 1) ns)) c.write.new.self grown (has_written_append g.W.Write.write_str_gives c.args.f.now (line_of (take i ns)) c.loop-number.f (c.loop-number.gap.now ++ decimal (get_or ns i 0)) c.write.new.self so more),
+          has_written_of_eq g.W.Write.write_str_gives c.args.f.now (line_of (take i ns) ++ (c.loop-number.gap.now ++ decimal (get_or ns i 0))) (line_of (take (i + 1) ns)) c.write.new.self grown (has_written_append g.W.Write.write_str_gives c.args.f.now (line_of (take i ns)) c.loop-number.f (c.loop-number.gap.now ++ decimal (get_or ns i 0)) c.write.new.self so (c.in_ok-write.ensures.writes so.plain (refl {a = true}))),
     )
 
 pub returns-clause-writes : goal.returns-clause-writes
