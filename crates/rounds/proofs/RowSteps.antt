@@ -1,11 +1,12 @@
 -- The steps of a round's pass over rows and gates, from the last to the first, for the numbers modulo p.
 -- At the end the four sums are the round's values.
-use Rattle.std.proofs.Common.{◌≡◌, ℕ, suc, ◌+◌, ◌-◌, ◌*◌, ◌/◌, ◌^◌, ◌<◌, ◌≤◌, true, ◌&&◌, T, ltb, List, [], ◌∷◌, length, get_or, take, drop, sym, ap, ◌∙◌, subst, ap₂, mul-le-mul_right, add-mul, arith, length-drop, pow-add}
+use Rattle.std.proofs.Common.{◌≡◌, ℕ, suc, ◌+◌, ◌-◌, ◌*◌, ◌/◌, ◌^◌, ◌<◌, ◌≤◌, true, ◌&&◌, T, ltb, List, [], ◌∷◌, ◌++◌, length, get_or, take, drop, sym, refl, ap, append_assoc, append-nil, length-append, ◌∙◌, subst, ap₂, mul-le-mul_right, add-mul, arith, length-drop, pow-add}
 use native.Mathlib.Nat.{two-pow-succ}
-use Rattle.std.proofs.lemmas.List.{drop_more, drop_all, length-take-le}
+use Rattle.std.proofs.lemmas.List.{drop_more, drop_all, get_or_at, length-take-le}
 use Rattle.std.proofs.lemmas.Bool.{and_parts, ltb-true}
 use Rattle.arithmetic.specs.Numbers.{modulo, all_reduced}
 use Rattle.arithmetic.proofs.Modulo.{ring_modulo}
+use Rattle.arithmetic.proofs.Newton.{reduced_at}
 use Rattle.argument.specs.Sumcheck.{four_values}
 use Rattle.argument.proofs.Copies.{Reads}
 use Rattle.circuits.specs.Circuit.{Gate, gates_fit}
@@ -14,21 +15,64 @@ use Rattle.tables.proofs.ReducedLists.{reduced_take, reduced_drop}
 use Rattle.rounds.specs.Fours.{FourOf}
 use Rattle.rounds.specs.Phases.{copy_sum}
 use Rattle.rounds.specs.Rows.{row, gate_on_line, row_sum, row_term, rows_sum}
-use Rattle.rounds.proofs.FourSteps.{four_same}
+use Rattle.rounds.proofs.FourSteps.{four_same, four_zeros}
 use Rattle.rounds.proofs.CopyRound.{copy_round}
 
 -- ---- one gate more, and one row more
-pub row_more : (p : ℕ) (gs : List Gate) (ws low high : List ℕ) (i : ℕ) (d : Gate) (t : ℕ) → i < length gs → i < length ws →
-    let N = modulo p in
-    N.add (N.mul (get_or ws i 0) (gate_on_line N (get_or gs i d) low high t)) (row_sum N (drop (i + 1) gs) (drop (i + 1) ws) low high t) ≡
-    row_sum N (drop i gs) (drop i ws) low high t
-unfolding row_sum
-row_more p gs ws low high i d t h k =
-    sym (ap₂ (λ (l : List Gate) (m : List ℕ). row_sum (modulo p) l m low high t) (drop_more gs i d h) (drop_more ws i 0 k))
+-- Gates from the last to the first: the weights that are left, those that are done, and the sums over the latter's gates.
+pub record RowPassed (p : ℕ) (gs : List Gate) (ws low high left s : List ℕ) : Type 0 where
+  pub done : List ℕ
+  pub parts : ws ≡ left ++ done
+  pub sums : FourOf p (row_sum (modulo p) (drop (length left) gs) done low high) s
 
-pub row_none : (p : ℕ) (gs : List Gate) (ws low high : List ℕ) (i t : ℕ) → length gs ≤ i → row_sum (modulo p) (drop i gs) (drop i ws) low high t ≡ 0
+pub passed_none : (p : ℕ) → 0 < p → (gs : List Gate) (ws low high left : List ℕ) → left ≡ ws → RowPassed p gs ws low high left (0 ∷ 0 ∷ 0 ∷ 0 ∷ [])
 unfolding row_sum
-row_none p gs ws low high i t h = ap (λ (l : List Gate). row_sum (modulo p) l (drop i ws) low high t) (drop_all i gs h)
+passed_none p h gs ws low high left e =
+    record { done = []; parts = sym e ∙ sym (append-nil left); sums = four_zeros p h _ (nothing (drop (length left) gs)) }
+  where
+    nothing : (gs : List Gate) (t : ℕ) → row_sum (modulo p) gs [] low high t ≡ 0
+    nothing [] t = refl
+    nothing (g ∷ gs) t = refl
+
+module _ {p : ℕ} {gs : List Gate} {ws low high left s : List ℕ} (h : RowPassed p gs ws low high left s) (left-after : List ℕ) (w : ℕ)
+    (next : left ≡ left-after ++ (w ∷ [])) where
+  parts-after : ws ≡ left-after ++ (w ∷ h.done)
+  parts-after = h.parts ∙ ap (λ (l : List ℕ). l ++ h.done) next ∙ append_assoc left-after (w ∷ []) h.done
+
+  pub passed_inside : length gs ≡ length ws → length left-after < length gs
+  passed_inside e = omega (arith, ap length parts-after, length-append left-after (w ∷ h.done))
+
+  pub passed_below : T (all_reduced (modulo p) ws) → w < p
+  passed_below t =
+      subst (λ (x : ℕ). x < p)
+      (ap (λ (l : List ℕ). get_or l (length left-after) 0) parts-after ∙ get_or_at left-after w h.done 0 (length left-after) refl)
+      (reduced_at p ws t (length left-after) (omega (arith, ap length parts-after, length-append left-after (w ∷ h.done))))
+
+  pub passed_more : (g d : Gate) (r : List ℕ) → length left-after < length gs → g ≡ get_or gs (length left-after) d →
+      FourOf p (λ t. (modulo p).add ((modulo p).mul w (gate_on_line (modulo p) g low high t)) (row_sum (modulo p) (drop (length left) gs) h.done low high t)) r →
+      RowPassed p gs ws low high left-after r
+  unfolding row_sum
+  passed_more g d r inside e sums =
+      record { done = w ∷ h.done; parts = parts-after; sums = four_same p _ _ r same sums }
+    where
+      k : ℕ
+      k = length left-after
+
+      longer : length left ≡ k + 1
+      longer = ap length next ∙ length-append left-after (w ∷ [])
+
+      same : (t : ℕ) →
+          (modulo p).add ((modulo p).mul w (gate_on_line (modulo p) g low high t)) (row_sum (modulo p) (drop (length left) gs) h.done low high t) ≡
+          row_sum (modulo p) (drop k gs) (w ∷ h.done) low high t
+      same t =
+          ap₂ (λ (x : Gate) (n : ℕ). (modulo p).add ((modulo p).mul w (gate_on_line (modulo p) x low high t)) (row_sum (modulo p) (drop n gs) h.done low high t)) e longer
+          ∙ sym (ap (λ (l : List Gate). row_sum (modulo p) l (w ∷ h.done) low high t) (drop_more gs k d inside))
+
+pub passed_all : {p : ℕ} {gs : List Gate} {ws low high left s : List ℕ} → RowPassed p gs ws low high left s → left ≡ [] → FourOf p (row_sum (modulo p) gs ws low high) s
+passed_all {p} {gs} {ws} {low} {high} {left} {s} h end =
+    four_same p _ _ s
+    (λ t. ap₂ (λ (n : ℕ) (l : List ℕ). row_sum (modulo p) (drop n gs) l low high t) (ap length end) (sym (h.parts ∙ ap (λ (l : List ℕ). l ++ h.done) end)))
+    h.sums
 
 pub rows_more : (p m : ℕ) (gs : List Gate) (ws : List ℕ) (half : ℕ) (e v : List ℕ) (i t : ℕ) → i < half →
     let N = modulo p in

@@ -59,8 +59,8 @@ fn sum_row<M: Modular>(layer: LayerView, weights: &[u32], low: &[u32], high: &[u
     ensures below { T (all_reduced (modulo M.modulus) result) }
 {
     let mut sums = [0; 4];
-    for i in (0..weights.len()).rev() {
-        let more = add_gate::<M>(layer.gate(i), weights[i], low, high, sums);
+    for (i, weight) in weights.iter().enumerate().rev() {
+        let more = add_gate::<M>(layer.gate(i), *weight, low, high, sums);
         sums = more;
     }
     sums
