@@ -1,6 +1,8 @@
 // One round's answer: the four values of the sum of V H + J over the corners that are left, in one pass over three tables.
 // A place of the lower half and its partner in the upper half give a line in the round's variable.
-ghost use Rattle.std.specs.Prelude.{◌≡◌, ℕ, suc, ◌^◌, ◌<◌, T, ◌∷◌, length};
+ghost use Rattle.std.specs.Iterator.Adapters.{zip_first, zip_second};
+ghost use Rattle.std.specs.Prelude.{◌≡◌, ℕ, suc, ◌/◌, ◌^◌, ◌<◌, T, ◌∷◌, length, take, drop};
+ghost use Rattle.std.specs.Slice.Iter.{iter_rest};
 ghost use Rattle.arithmetic.specs.Numbers.{modulo, all_reduced};
 ghost use Rattle.argument.specs.Sumcheck.{four_values};
 ghost use Rattle.tables.specs.InPlace.{on_line};
@@ -9,6 +11,17 @@ ghost use Rattle.rounds.specs.Phases.{product_sum};
 
 use crate::fours::{add_each, mul_each};
 use arithmetic::modular::Modular;
+use std::iter::Zip;
+use std::slice::Iter;
+
+// The places of a table's lower half, each with its partner in the upper half.
+pub(crate) fn halves(table: &[u32]) -> Zip<Iter<'_, u32>, Iter<'_, u32>>
+    ensures low { iter_rest (zip_first result) ≡ take (length table.now / 2) table.now }
+    ensures high { iter_rest (zip_second result) ≡ drop (length table.now / 2) table.now }
+{
+    let (low, high) = table.split_at(table.len() / 2);
+    low.iter().zip(high)
+}
 
 // The values of the line through a at 0 and b at 1. Each after b is a step further, which takes no multiplication.
 pub fn line_values<M: Modular>(a: u32, b: u32) -> [u32; 4]
