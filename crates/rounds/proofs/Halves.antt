@@ -1,6 +1,6 @@
 -- What a pass over a table's two halves has left of them, place by place and row by row.
 -- After k turns, the next place is the k-th of each half.
-use Rattle.std.proofs.Common.{◌≡◌, ℕ, ◌+◌, ◌-◌, ◌*◌, ◌/◌, ◌^◌, ◌<◌, ◌≤◌, T, ◌⊎◌, ⊎_elim, List, [], ◌∷◌, ◌++◌, length, get_or, take, drop, sym, ap, ◌∙◌, mul-le-mul_right, add-mul, arith, length-drop, length-take, get_or-drop, get_or-take}
+use Rattle.std.proofs.Common.{◌≡◌, ℕ, ◌+◌, ◌-◌, ◌*◌, ◌/◌, ◌^◌, ◌<◌, ◌≤◌, ◌⊎◌, ⊎_elim, List, ◌∷◌, ◌++◌, length, get_or, take, drop, sym, ap, ◌∙◌, mul-le-mul_right, add-mul, arith, length-drop, length-take, get_or-drop, get_or-take}
 use native.Mathlib.Decide.{dec_lt}
 use Rattle.std.proofs.lemmas.List.{drop_more, take_at, drop_at, take-take, drop-drop, drop-take}
 use Rattle.rounds.specs.Rows.{row}

@@ -1,8 +1,8 @@
 -- The steps of a round's pass over rows and gates, from the last to the first, for the numbers modulo p.
 -- At the end the four sums are the round's values.
-use Rattle.std.proofs.Common.{◌≡◌, ℕ, zero, suc, ◌+◌, ◌-◌, ◌*◌, ◌/◌, ◌^◌, ◌<◌, ◌≤◌, true, ◌&&◌, ◌⊎◌, ⊎_elim, inl, inr, T, ltb, List, [], ◌∷◌, ◌++◌, length, get_or, take, drop, sym, refl, ap, append_assoc, append-nil, length-append, ◌∙◌, subst, ap₂, mul-le-mul_right, add-mul, zero-mul, arith, length-drop, pow-add}
+use Rattle.std.proofs.Common.{◌≡◌, ℕ, zero, suc, ◌+◌, ◌*◌, ◌/◌, ◌^◌, ◌<◌, ◌≤◌, true, ◌&&◌, T, ltb, List, [], ◌∷◌, ◌++◌, length, get_or, take, drop, sym, refl, ap, append_assoc, append-nil, length-append, ◌∙◌, subst, ap₂, zero-mul, arith, pow-add}
 use native.Mathlib.Nat.{two-pow-succ}
-use Rattle.std.proofs.lemmas.List.{drop_more, drop_all, get_or_at, length-take-le}
+use Rattle.std.proofs.lemmas.List.{drop_more, get_or_at}
 use Rattle.std.proofs.lemmas.Bool.{and_parts, ltb-true}
 use Rattle.arithmetic.specs.Numbers.{modulo, all_reduced}
 use Rattle.arithmetic.proofs.Modulo.{ring_modulo}
@@ -17,7 +17,7 @@ use Rattle.rounds.specs.Fours.{FourOf}
 use Rattle.rounds.specs.Phases.{copy_sum}
 use Rattle.rounds.specs.Rows.{row, gate_on_line, row_sum, row_term, rows_sum}
 use Rattle.rounds.proofs.FourSteps.{four_same, four_zeros}
-use Rattle.rounds.proofs.Halves.{HalvesLeft, halves_more, halves_end, RowsLeft, rows_left_more, rows_left_end}
+use Rattle.rounds.proofs.Halves.{HalvesLeft, halves_more, RowsLeft, rows_left_more}
 use Rattle.rounds.proofs.CopyRound.{copy_round}
 
 -- ---- one gate more, and one row more

@@ -83,7 +83,9 @@ pub fn sum_copies<M: Modular>(
 {
     let half = eq.len() / 2;
     let (low_rows, high_rows) = values.split_at(half * places);
-    let rows = low_rows.chunks_exact(places).zip(high_rows.chunks_exact(places));
+    let rows = low_rows
+        .chunks_exact(places)
+        .zip(high_rows.chunks_exact(places));
     let mut sums = [0; 4];
     for ((low_eq, high_eq), (low, high)) in halves(eq).zip(rows) {
         let row = sum_row::<M>(layer, weights, low, high);

@@ -44,12 +44,11 @@ pub fn sum_round<M: Modular>(v: &[u32], h: &[u32], j: &[u32]) -> [u32; 4]
     ensures values { (n : ℕ) → length v.now ≡ 2 ^ suc n → result ≡ four_values (modulo M.modulus) (λ t. sum_corners (modulo M.modulus) n (λ z. product_sum (modulo M.modulus) v.now h.now j.now (t ∷ z))) }
     ensures reduced { T (all_reduced (modulo M.modulus) result) }
 {
-    let half = v.len() / 2;
     let mut sums = [0; 4];
-    for i in 0..half {
-        let v_values = line_values::<M>(v[i], v[half + i]);
-        let h_values = line_values::<M>(h[i], h[half + i]);
-        let j_values = line_values::<M>(j[i], j[half + i]);
+    for (((v0, v1), (h0, h1)), (j0, j1)) in halves(v).zip(halves(h)).zip(halves(j)) {
+        let v_values = line_values::<M>(*v0, *v1);
+        let h_values = line_values::<M>(*h0, *h1);
+        let j_values = line_values::<M>(*j0, *j1);
         let products = mul_each::<M>(v_values, h_values);
         let more = add_each::<M>(sums, add_each::<M>(products, j_values));
         sums = more;

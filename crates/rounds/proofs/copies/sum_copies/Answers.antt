@@ -1,5 +1,5 @@
 -- Each turn adds one copy of the lower half with its partner.
-use Rattle.std.proofs.Common.{◌≡◌, ℕ, ◌*◌, ◌/◌, ◌<◌, ◌≤◌, length, take, drop, ap, ◌∙◌, inl, inr, ⊎_elim, refl, arith}
+use Rattle.std.proofs.Common.{◌≡◌, ◌/◌, ◌<◌, ◌≤◌, length, inl, inr, ⊎_elim, refl, arith}
 use Rattle.circuits.proofs.Parts.{layer_parts}
 use Rattle.circuits.specs.Views.{gates_seen, places_below, size_seen}
 use Rattle.rounds.proofs.Halves.{halves_end, rows_left_end}

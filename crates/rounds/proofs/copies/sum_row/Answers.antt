@@ -30,7 +30,7 @@ loop-i-preserved g c =
     record {
       first = cc;
       passed = passed_more passed _ _ step.1.0 _ no_gate c.add_gate-more.result (passed_inside passed _ _ step.1.0 many)
-        (c.gate.ensures.value ∙ ap (λ (k : ℕ). get_or gs k no_gate) place) (c.add_gate-more.ensures.values _ passed.sums);
+          (c.gate.ensures.value ∙ ap (λ (k : ℕ). get_or gs k no_gate) place) (c.add_gate-more.ensures.values _ passed.sums);
     }
 
 pub returns : goal.returns
