@@ -11,7 +11,7 @@ ghost use Rattle.rounds.specs.Phases.{copy_sum};
 ghost use Rattle.rounds.specs.Rows.{gate_on_line, row_sum};
 
 use crate::fours::{add_each, mul_each, scale_each};
-use crate::rounds::line_values;
+use crate::rounds::{halves, line_values};
 use arithmetic::modular::Modular;
 use circuits::{Gate, Kind, LayerView};
 
@@ -59,20 +59,11 @@ fn sum_row<M: Modular>(layer: LayerView, weights: &[u32], low: &[u32], high: &[u
     ensures below { T (all_reduced (modulo M.modulus) result) }
 {
     let mut sums = [0; 4];
-    for i in (0..weights.len()).rev() {
-        let more = add_gate::<M>(layer.gate(i), weights[i], low, high, sums);
+    for (i, weight) in weights.iter().enumerate().rev() {
+        let more = add_gate::<M>(layer.gate(i), *weight, low, high, sums);
         sums = more;
     }
     sums
-}
-
-// The values of one copy.
-fn row_at<'a>(values: &'a [u32], places: usize, copy: usize) -> &'a [u32]
-    requires { copy * places + places ≤ length values.now }
-    ensures { result.now ≡ take places (drop (copy * places) values.now) }
-{
-    let start = copy * places;
-    &values[start..start + places]
 }
 
 // The round's four values, over tables of eq for 2^(n + 1) copies and of their values: there is one such n at most.
@@ -91,13 +82,15 @@ pub fn sum_copies<M: Modular>(
     ensures reduced { T (all_reduced (modulo M.modulus) result) }
 {
     let half = eq.len() / 2;
+    let (low_rows, high_rows) = values.split_at(half * places);
+    let rows = low_rows
+        .chunks_exact(places)
+        .zip(high_rows.chunks_exact(places));
     let mut sums = [0; 4];
-    for i in (0..half).rev() {
-        let low = row_at(values, places, i);
-        let high = row_at(values, places, half + i);
+    for ((low_eq, high_eq), (low, high)) in halves(eq).zip(rows) {
         let row = sum_row::<M>(layer, weights, low, high);
-        let factors = line_values::<M>(eq[i], eq[half + i]);
-        let more = add_each::<M>(mul_each::<M>(factors, row), sums);
+        let factors = line_values::<M>(*low_eq, *high_eq);
+        let more = add_each::<M>(sums, mul_each::<M>(factors, row));
         sums = more;
     }
     sums

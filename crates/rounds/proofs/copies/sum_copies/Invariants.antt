@@ -1,12 +1,14 @@
--- The sums are those over the rows from i on.
-use Rattle.std.proofs.Common.{◌-◌}
-use Rattle.arithmetic.specs.Numbers.{modulo}
+-- The sums are those over the rows that are done.
+use Rattle.std.specs.Iterator.Adapters.{zip_first, zip_second}
+use Rattle.std.specs.Slice.Iter.{iter_rest, chunks_exact_rest, chunks_exact_size}
 use Rattle.circuits.specs.Views.{gates_seen, places_below}
-use Rattle.rounds.specs.Fours.{FourOf}
-use Rattle.rounds.specs.Rows.{rows_sum}
+use Rattle.rounds.proofs.RowSteps.{CopiesPassed}
 use Rattle.rounds.proofs.copies.sum_copies.Given as goal
 
-abbrev pub invariant-loop-i : goal.invariant-loop-i
-invariant-loop-i g l =
-    let p = g.M.Modular.modulus in
-    FourOf p (rows_sum (modulo p) (places_below l.layer) (gates_seen l.layer) l.weights l.half l.eq l.values l.i (l.half - l.i)) l.sums
+abbrev pub invariant-loop-low_eq : goal.invariant-loop-low_eq
+invariant-loop-low_eq g l =
+    let eqs = zip_first l.low_eq-iterator in
+    let low = zip_first (zip_second l.low_eq-iterator) in
+    let high = zip_second (zip_second l.low_eq-iterator) in
+    CopiesPassed g.M.Modular.modulus (places_below l.layer) (gates_seen l.layer) l.weights l.eq l.values (iter_rest (zip_first eqs)) (iter_rest (zip_second eqs))
+    (chunks_exact_rest low) (chunks_exact_rest high) (chunks_exact_size low) (chunks_exact_size high) l.sums

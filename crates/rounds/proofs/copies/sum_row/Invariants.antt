@@ -1,12 +1,15 @@
--- The sums are those over the gates from i on.
-use Rattle.std.proofs.Common.{drop}
-use Rattle.arithmetic.specs.Numbers.{modulo}
+-- The sums are those over the gates whose weights are done.
+use Rattle.std.specs.Iterator.Adapters.{rev_source, enumerate_source, enumerate_count}
+use Rattle.std.specs.Slice.Iter.{iter_rest}
+use Rattle.std.proofs.Common.{◌≡◌}
 use Rattle.circuits.specs.Views.{gates_seen}
-use Rattle.rounds.specs.Fours.{FourOf}
-use Rattle.rounds.specs.Rows.{row_sum}
+use Rattle.rounds.proofs.RowSteps.{RowPassed}
 use Rattle.rounds.proofs.copies.sum_row.Given as goal
 
 abbrev pub invariant-loop-i : goal.invariant-loop-i
 invariant-loop-i g l =
-    let p = g.M.Modular.modulus in
-    FourOf p (row_sum (modulo p) (drop l.i (gates_seen l.layer)) (drop l.i l.weights) l.low l.high) l.sums
+    let rest = rev_source l.i-iterator in
+    record {
+      first : enumerate_count rest ≡ 0;
+      passed : RowPassed g.M.Modular.modulus (gates_seen l.layer) l.weights l.low l.high (iter_rest (enumerate_source rest)) l.sums;
+    }
