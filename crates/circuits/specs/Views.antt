@@ -1,6 +1,6 @@
 -- What the code's types stand for: its kinds and gates, and the parts of a circuit that a view shows.
 -- The contracts of the views are stated by these.
-use Rattle.std.specs.Prelude.{ℕ, ◌^◌, List, []}
+use Rattle.std.specs.Prelude.{ℕ, ◌/◌, ◌^◌, List, [], length}
 use Rattle.circuits.specs.Circuit.{sum, product}
 use Rattle.circuits.specs.Circuit as circuit
 use Rattle.circuits.specs.Words.{circuit_of, gates_of, layers_of}
@@ -10,6 +10,7 @@ use Rattle.circuits.specs.declared.gate.Kind.TheVariants.{Sum, Product}
 use Rattle.circuits.specs.declared.view.CircuitView.{CircuitView}
 use Rattle.circuits.specs.declared.view.LayersView.{LayersView}
 use Rattle.circuits.specs.declared.view.LayerView.{LayerView}
+use Rattle.circuits.specs.declared.view.Gates.{Gates}
 
 abbrev pub kind_meant : Kind → circuit.Kind
 kind_meant Sum = sum
@@ -54,6 +55,10 @@ places_below v = v.below
 
 abbrev pub gates_seen : LayerView → List circuit.Gate
 gates_seen v = gates_of (2 ^ v.size) v.words.now
+
+-- those that an iterator over them has left
+abbrev pub gates_left : Gates → List circuit.Gate
+gates_left v = gates_of (length v.words.now / 3) v.words.now
 
 abbrev pub layer_seen : LayerView → circuit.Layer
 layer_seen v = record { size = size_seen v; gates = gates_seen v }

@@ -1,6 +1,6 @@
 // Views of the words of a lawful circuit: the whole of it, the layers from one of them down, and a single layer.
 // A view is made only from words that were found lawful, so that what it reads is always there.
-ghost use Rattle.std.specs.Prelude.{◌≡◌, true};
+ghost use Rattle.std.specs.Prelude.{◌≡◌, ◌*◌, ◌/◌, true, length};
 ghost use Rattle.circuits.specs.Words.{is_circuit};
 ghost use Rattle.circuits.specs.Parts.{are_layers, is_layer};
 
@@ -33,4 +33,11 @@ pub struct LayerView<'a> {
     below: u32,
     words: &'a [u32],
     ghost lawful: { is_layer size below words.now ≡ true },
+}
+
+// The gates of a layer that are still to come.
+#[derive(Drop)]
+pub struct Gates<'a> {
+    words: &'a [u32],
+    ghost whole: { 3 * (length words.now / 3) ≡ length words.now },
 }

@@ -26,9 +26,10 @@ fn gate_values<M: Modular>(layer: LayerView, below: &[u32], values: &mut [u32])
     requires reduced { EachBelow M.modulus below.now }
     ensures { values.new ≡ gate_values (modulo M.modulus) below.now (gates_seen layer.entry) }
 {
-    for i in 0..values.len() {
+    // Not zipped with the layer's gates, since nothing would then be known of the values that the loop wrote.
+    for (i, value) in values.iter_mut().enumerate() {
         let gate = layer.gate(i);
-        values[i] = combine::<M>(gate.kind, below[gate.left], below[gate.right]);
+        *value = combine::<M>(gate.kind, below[gate.left], below[gate.right]);
     }
 }
 
@@ -42,6 +43,7 @@ pub fn layer_values<M: Modular>(layer: LayerView, copies: u32, below: &[u32], va
     let places = power(layer.size_below());
     let gates = layer.gate_count();
     let count = power(copies);
+    // By places, since after `chunks_exact_mut` nothing would be known of the values that the loop wrote.
     for copy in 0..count {
         let from = copy * places;
         let to = copy * gates;

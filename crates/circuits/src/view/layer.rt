@@ -2,14 +2,15 @@
 // Each gate takes places that are there in what lies below.
 ghost use Rattle.std.specs.Prelude.{◌≡◌, ◌+◌, ◌*◌, ◌^◌, ◌<◌, ◌≤◌, length, slice_index_or};
 ghost use Rattle.circuits.specs.Parts.{gate_at};
-ghost use Rattle.circuits.specs.Views.{gates_seen, size_seen, places_below, gate_meant, kind_meant, no_gate};
+ghost use Rattle.std.specs.Iterator.{YieldsFirstBy, YieldsLastBy, item_count};
+ghost use Rattle.circuits.specs.Views.{gates_seen, gates_left, size_seen, places_below, gate_meant, kind_meant, no_gate};
 ghost use Rattle.circuits.specs.Words.{kind_of};
 
-use super::LayerView;
+use super::{Gates, LayerView};
 use crate::gate::{Gate, Kind};
 use crate::shape::power;
 
-// No word but 0 and 1 stands there in a circuit.
+// No word but 0 and 1 stands there in a circuit, so that the conversion that can fail would be no plainer here.
 fn kind_of(word: u32) -> Kind
     ensures { kind_meant result ≡ kind_of word }
 {
@@ -61,5 +62,36 @@ impl<'a> LayerView<'a> {
         ensures right { result.right < 2 ^ places_below self.entry }
     {
         read_gate(self.words, place)
+    }
+
+    // Its gates one after the other.
+    pub fn gates(self) -> Gates<'a>
+        ensures { gates_left result ≡ gates_seen self.entry }
+    {
+        Gates { words: self.words }
+    }
+}
+
+impl<'a> Iterator for Gates<'a> {
+    type Item = Gate;
+
+    ghost next_gives = { YieldsFirstBy gate_meant gates_left };
+
+    ghost remaining = { item_count gates_left };
+
+    fn next(&mut self) -> Option<Gate> {
+        let (first, rest) = self.words.split_first_chunk::<3>()?;
+        self.words = rest;
+        Some(read_gate(first, 0))
+    }
+}
+
+impl<'a> DoubleEndedIterator for Gates<'a> {
+    ghost next_back_gives = { YieldsLastBy gate_meant gates_left };
+
+    fn next_back(&mut self) -> Option<Gate> {
+        let (others, last) = self.words.split_last_chunk::<3>()?;
+        self.words = others;
+        Some(read_gate(last, 0))
     }
 }

@@ -3,10 +3,7 @@ use Rattle.std.proofs.Common.{◌*◌, ◌^◌, ap, ◌∙◌}
 use Rattle.std.proofs.lemmas.Nat.{pow-add}
 use Rattle.circuits.proofs.view.LayersView.value_count.Goals as goal
 
-pub returns : goal.returns
-returns c =
+pub returns-clause-value : goal.returns-clause-value
+returns-clause-value c =
     let copies = c.args.self.copies in
-    record {
-      value = c.power.ensures.value ∙ pow-add 2 copies c.top_size.result ∙ ap (λ k. 2 ^ copies * 2 ^ k) c.top_size.ensures.value;
-      limit = c.power.ensures.limit;
-    }
+    c.power.ensures.value ∙ pow-add 2 copies c.top_size.result ∙ ap (λ k. 2 ^ copies * 2 ^ k) c.top_size.ensures.value

@@ -14,7 +14,7 @@ returns-in-Some-check c =
     let inputs = head_word ws front 1 h.0 (omega arith) in
     let count = head_word ws front 2 h.0 (omega arith) in
     let seen = c.in-Some-check.ensures.seen in
-    let form : shaped (word ws 0) (word ws 2) (drop 3 ws) ≡ true = cc (c.in-Some-check.ensures.shaped, h.1, copies, count) in
+    let form : shaped (word ws 0) (word ws 2) (drop 3 ws) ≡ true = cc (h.1, copies, count) in
     let fit : c.fit.result ≡ layers_fit (layers_of (word ws 2) (drop 3 ws)) (word ws 1) = cc (c.fit.ensures, seen.1, seen.2, h.1, inputs, count) in
     let by = circuit_by ws (omega arith) (omega arith) (omega arith) (omega arith) (omega arith) in
     fit ∙ sym (by ∙ ap (λ b. b && layers_fit (layers_of (word ws 2) (drop 3 ws)) (word ws 1)) form)
