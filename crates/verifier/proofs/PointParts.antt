@@ -1,12 +1,12 @@
 -- The three parts of a whole point, where it stands at the start of the verifier's array.
 -- When all variables have their coins, each part is a part of the array.
-use Rattle.std.proofs.Common.{◌≡◌, ℕ, ◌+◌, ◌-◌, ◌*◌, ◌<◌, ◌≤◌, List, [], ◌∷◌, length, get_or, take, drop, sym, refl, ap, ◌∙◌, ap₂, arith, length-take}
+use Rattle.std.proofs.Common.{◌≡◌, ℕ, ◌+◌, ◌-◌, ◌*◌, ◌<◌, ◌≤◌, List, [], ◌∷◌, length, get_or, take, drop, sym, refl, ap, ◌∙◌, ap₂, arith}
 use Rattle.std.proofs.lemmas.List.{take-take, drop-take}
 use Rattle.arithmetic.specs.Numbers.{Numbers}
 use Rattle.circuits.specs.Circuit.{Layer, size_below}
 use Rattle.circuits.specs.Views.{no_layer}
 use Rattle.argument.specs.Claims.{Claim, expected}
-use Rattle.verdicts.specs.Machine.{stand_at, variables, variables_of, size_under, point_c, point_x, point_y, expected_of}
+use Rattle.verdicts.specs.Machine.{Stand, stand_at, variables, variables_of, size_under, expected_of}
 use Rattle.verifier.specs.declared.verifier.Verifier.{Verifier}
 use Rattle.verifier.specs.Meaning.{stand_of}
 
@@ -34,20 +34,11 @@ part_of_front from len end xs h =
 pub rest_of_front : (from len end : ℕ) (xs : List ℕ) → end ≡ from + len → drop from (take end xs) ≡ take len (drop from xs)
 rest_of_front from len end xs e = ap (λ (n : ℕ). drop from (take n xs)) e ∙ drop-take from len xs
 
-module _ (v : Verifier) (long : length v.point ≡ 32) (some : 0 < length (stand_of v).layers)
-    (done : variables_of (stand_of v) ≤ length (stand_of v).point) where
-  pub all_drawn : v.drawn ≡ (stand_of v).copies + 2 * size_under (stand_of v)
-  all_drawn =
-      omega (arith, variables_some (stand_of v).copies (stand_of v).inputs (stand_of v).layers some, v.within, done, length-take v.drawn v.point)
-
-  pub part_c : point_c (stand_of v) ≡ take (stand_of v).copies v.point
-  part_c = take-take (stand_of v).copies v.drawn v.point (omega (arith, all_drawn))
-
-  pub part_x : point_x (stand_of v) ≡ take (size_under (stand_of v)) (drop (stand_of v).copies v.point)
-  part_x = part_of_front (stand_of v).copies (size_under (stand_of v)) v.drawn v.point (omega (arith, all_drawn))
-
-  pub part_y : point_y (stand_of v) ≡ take (size_under (stand_of v)) (drop ((stand_of v).copies + size_under (stand_of v)) v.point)
-  part_y = rest_of_front ((stand_of v).copies + size_under (stand_of v)) (size_under (stand_of v)) v.drawn v.point (omega (arith, all_drawn))
+-- how many coins a layer has whose variables all have theirs
+pub all_drawn : (v : Verifier) → 0 < length (stand_of v).layers → variables_of (stand_of v) ≤ length (stand_of v).point →
+    length (stand_of v).point ≡ (stand_of v).copies + 2 * size_under (stand_of v)
+all_drawn v some done =
+    omega (arith, variables_some (stand_of v).copies (stand_of v).inputs (stand_of v).layers some, v.within, done)
 
 -- what was cut out for a point, at the sizes that the point has
 pub cut_is : (n n' from from' : ℕ) (r xs : List ℕ) → take n r ≡ take n (drop from xs) → n ≡ n' → from ≡ from' → take n' r ≡ take n' (drop from' xs)
@@ -65,11 +56,17 @@ same_shares c c' x x' y y' s t t' ec ex ey et = λ i. two_shares (ec i) (ex i) (
 abbrev pub one_share : List ℕ → List ℕ → ℕ → Claim ℕ
 one_share c x t = record { copy = c; shares = record { factor = 1; point = x } ∷ []; total = t }
 
+-- a stand at layer 0 with these coins
+abbrev pub begun : ℕ → ℕ → List Layer → Claim ℕ → List ℕ → Stand ℕ
+begun copies inputs ls k z =
+    record { copies = copies; inputs = inputs; layer = 0; layers = ls; claim = k; point = z; total = k.total }
+
 pub same_start :
-    (copies copies' inputs inputs' : ℕ) (ls ls' : List Layer) (c c' x x' : List ℕ) (t t' : ℕ) → copies ≡ copies' → inputs ≡ inputs' →
-    ls ≡ ls' → c ≡ c' → x ≡ x' → t ≡ t' → stand_at copies inputs 0 ls (one_share c x t) ≡ stand_at copies' inputs' 0 ls' (one_share c' x' t')
-same_start copies copies' inputs inputs' ls ls' c c' x x' t t' ek ei el ec ex et =
-    λ i. stand_at (ek i) (ei i) 0 (el i) (one_share (ec i) (ex i) (et i))
+    (copies copies' inputs inputs' : ℕ) (ls ls' : List Layer) (c c' x x' : List ℕ) (t t' : ℕ) (z : List ℕ) → copies ≡ copies' →
+    inputs ≡ inputs' → ls ≡ ls' → c ≡ c' → x ≡ x' → t ≡ t' → z ≡ [] →
+    begun copies inputs ls (one_share c x t) z ≡ stand_at copies' inputs' 0 ls' (one_share c' x' t')
+same_start copies copies' inputs inputs' ls ls' c c' x x' t t' z ek ei el ec ex et ez =
+    λ i. begun (ek i) (ei i) (el i) (one_share (ec i) (ex i) (et i)) (ez i)
 
 pub size_below_none : (ls : List Layer) (inputs : ℕ) → length ls ≡ 0 → size_below ls inputs ≡ inputs
 size_below_none [] inputs e = refl

@@ -1,13 +1,9 @@
 -- The layer below begins with no coin drawn.
-use Rattle.std.proofs.Common.{◌≡◌, ℕ, ◌+◌, ◌-◌, ◌^◌, ◌≤◌, true, length, replicate, sym, refl, ap, ◌∙◌, ap₂, zero-le, arith, length-drop}
+use Rattle.std.proofs.Common.{◌≡◌, ℕ, ◌+◌, ◌-◌, ◌^◌, ◌≤◌, length, sym, ap, ◌∙◌, ap₂, arith, length-drop}
 use Rattle.circuits.specs.Views.{layers_seen, copies_above, inputs_below}
-use Rattle.arithmetic.specs.Numbers.{modulo, all_reduced}
-use Rattle.circuits.specs.Words.{modulus}
+use Rattle.verdicts.specs.Machine.{variables}
+use Rattle.claims.specs.Drawing.{coins_drawn}
 use Rattle.verifier.proofs.verifier.Verifier.descended.Goals as goal
-
-zeros : all_reduced (modulo modulus) (replicate 32 0) ≡ true
-unfolding all_reduced
-zeros = refl
 
 pub invariant_of-result : goal.invariant_of-result
 invariant_of-result c =
@@ -19,11 +15,12 @@ invariant_of-result c =
     ap length c.rest.ensures.layers ∙ length-drop 1 (layers_seen v.layers)
     in
     let numbered : v.layer + 1 + length (layers_seen c.rest.result) ≤ 32 = omega (arith, v.numbered, c.requires, fewer) in
+    let none : length (coins_drawn c.new.result) ≤ variables (copies_above c.rest.result) (inputs_below c.rest.result) (layers_seen c.rest.result) =
+    omega (arith, ap length c.new.ensures) in
     record {
       inputs_whole = whole;
       inputs_reduced = v.inputs_reduced;
       numbered = numbered;
-      within = zero-le;
-      point_reduced = zeros;
+      within = none;
       total_reduced = c.args.claim.total_reduced;
     }

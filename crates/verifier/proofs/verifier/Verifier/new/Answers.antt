@@ -1,17 +1,14 @@
 -- No coin of the layer's variables is drawn yet.
-use Rattle.std.proofs.Common.{◌≡◌, ℕ, ◌+◌, ◌^◌, ◌≤◌, true, length, take, drop, replicate, sym, refl, ap, ◌∙◌, ap₂, zero-le, arith, length-drop}
+use Rattle.std.proofs.Common.{◌≡◌, ℕ, ◌+◌, ◌^◌, ◌≤◌, length, take, drop, sym, refl, ap, ◌∙◌, ap₂, arith, length-drop}
 use Rattle.std.proofs.lemmas.List.{take_all}
-use Rattle.arithmetic.specs.Numbers.{modulo, all_reduced}
 use Rattle.circuits.specs.Circuit.{size_below}
 use Rattle.circuits.specs.Views.{layers_seen, copies_above, inputs_below, circuit_seen, words_seen}
-use Rattle.circuits.specs.Words.{modulus}
+use Rattle.verdicts.specs.Machine.{variables}
+use Rattle.claims.specs.Drawing.{coins_drawn}
 use Rattle.verifier.proofs.Limits.{layers_limit}
 use Rattle.verifier.proofs.PointParts.{cut_is, same_start}
 use Rattle.verifier.proofs.verifier.Verifier.new.Goals as goal
 
-zeros : all_reduced (modulo modulus) (replicate 32 0) ≡ true
-unfolding all_reduced
-zeros = refl
 
 pub invariant_of-result-2 : goal.invariant_of-result-2
 invariant_of-result-2 c =
@@ -22,12 +19,14 @@ invariant_of-result-2 c =
     let numbered : 0 + length (layers_seen layers) ≤ 32 =
     omega (arith, ap length c.layers-layers.ensures.layers, layers_limit (words_seen c.args.circuit) c.args.circuit.lawful)
     in
+    let none : length (coins_drawn c.new.result) ≤ variables (copies_above layers) (inputs_below layers) (layers_seen layers) =
+    omega (arith, ap length c.new.ensures)
+    in
     record {
       inputs_whole = whole;
       inputs_reduced = c.requires.inputs.1;
       numbered = numbered;
-      within = zero-le;
-      point_reduced = zeros;
+      within = none;
       total_reduced = c.extension_at-total.ensures.below;
     }
 
@@ -55,7 +54,7 @@ returns c =
     in
     record {
       stand =
-          same_start _ circuit.copies _ circuit.inputs _ circuit.layers _ (take circuit.copies z) _ (drop circuit.copies z) _ _ same
-          c.layers-layers.ensures.inputs c.layers-layers.ensures.layers cut_c cut_x c.extension_at-total.ensures.value;
+          same_start _ circuit.copies _ circuit.inputs _ circuit.layers _ (take circuit.copies z) _ (drop circuit.copies z) _ _ _ same
+          c.layers-layers.ensures.inputs c.layers-layers.ensures.layers cut_c cut_x c.extension_at-total.ensures.value c.new.ensures;
       inputs = refl;
     }
