@@ -11,14 +11,6 @@ use Rattle.circuits.specs.Words.{modulus}
 use Rattle.argument.specs.Sumcheck.{well_formed}
 use Rattle.claims.specs.Meaning.{numbers}
 
--- a check that did not refuse has passed
-pub ok_passes : {X : Type 0} (b : Bool) (e : Refusal) (r : Result X Refusal) → RefusedUnless b e r → is_ok r ≡ true → b ≡ true
-ok_passes b e (Ok x) h is = h
-ok_passes b e (Err d) h is = absurd (false≢true is)
-
-pub formed : (n : ℕ) (xs : List ℕ) → length xs ≡ n → all_reduced numbers xs ≡ true → well_formed numbers n xs ≡ true
-formed n xs e h = and_from (eqb (length xs) n) (all_reduced numbers xs) (eq-eqb (length xs) n e) h
-
 pub formed_at : (n : ℕ) (xs ys : List ℕ) → xs ≡ ys → well_formed numbers n ys ≡ true → (i : ℕ) → i < n → get_or xs i 0 < modulus
 formed_at n xs ys e h i l =
     let both = and_parts (eqb (length ys) n) (all_reduced numbers ys) h in

@@ -21,23 +21,23 @@ limit v = (layers_parts v.layers.copies v.layers.inputs v.layers.count v.layers.
 pub view-shares-requires : goal.view-shares-requires
 view-shares-requires c = omega (arith, limit c.args.self.now, c.inputs-size.ensures)
 
-pub sum_shares-sum-requires : goal.sum_shares-sum-requires
-sum_shares-sum-requires c =
+pub sum_shares-sum-requires-clause-length : goal.sum_shares-sum-requires-clause-length
+sum_shares-sum-requires-clause-length c =
     let v = c.args.self.now in
     let room : length v.claim.copy ≡ 16 = search rules in
     let n : ℕ = c.copies-copies.result - 0 in
     let bits = limit v in
-    let fit = c.view-shares.ensures.fits in
-    let size : length c.view-shares.result.first.point.now ≡ c.inputs-size.result = fit.first.coordinates in
+    let size : length c.view-shares.result.first.point.now ≡ c.inputs-size.result = c.view-shares.ensures.fits.first.coordinates in
     let long : length (take n v.claim.copy) ≡ n = part_length 0 n v.claim.copy (omega (arith, c.copies-copies.ensures.value)) in
     let bits_are : (stand_of v).copies + (stand_of v).inputs ≡ length (take n v.claim.copy) + length c.view-shares.result.first.point.now =
     omega (arith, long, size, c.copies-copies.ensures.value, c.inputs-size.ensures)
     in
-    record {
-      length = (v.inputs_whole ∙ ap (λ (k : ℕ). 2 ^ k) bits_are, omega (arith, bits_are));
-      reduced = (T_of_path _ v.inputs_reduced, part_reduced 0 n v.claim.copy v.claim.copy_reduced);
-      shares = subst (λ (k : ℕ). SharesFit modulus k c.view-shares.result) (sym size) fit;
-    }
+    (v.inputs_whole ∙ ap (λ (k : ℕ). 2 ^ k) bits_are, omega (arith, bits_are))
+
+pub sum_shares-sum-requires-clause-reduced : goal.sum_shares-sum-requires-clause-reduced
+sum_shares-sum-requires-clause-reduced c =
+    let v = c.args.self.now in
+    (T_of_path _ v.inputs_reduced, part_reduced 0 (c.copies-copies.result - 0) v.claim.copy v.claim.copy_reduced)
 
 -- the sum that is worked out is the claim's
 sum_is :
