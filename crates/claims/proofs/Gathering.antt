@@ -7,9 +7,6 @@ use Rattle.std.proofs.lemmas.List.{drop_more, drop_all}
 use Rattle.arithmetic.specs.Numbers.{modulo}
 use Rattle.circuits.specs.Circuit.{sum, product, Gate}
 use Rattle.circuits.specs.Circuit as circuit
-use Rattle.circuits.specs.Views.{kind_meant}
-use Rattle.circuits.specs.declared.gate.Kind.{Kind}
-use Rattle.circuits.specs.declared.gate.Kind.TheVariants.{Sum, Product}
 use Rattle.argument.specs.Claims.{same_kind}
 use Rattle.claims.specs.Sums.{weighted_wiring}
 use Rattle.claims.specs.Gathered.{wiring_from, Gathered}
@@ -18,25 +15,6 @@ use Rattle.claims.specs.declared.wiring.Wiring.{Wiring}
 -- the term of a gate of one kind, on the side of either kind
 abbrev pub on_side : circuit.Kind → circuit.Kind → ℕ → ℕ
 on_side side kind term = cond (same_kind side kind) term 0
-
-pub sum_on_sums : (k : Kind) (t : ℕ) → k ≡ Sum → on_side sum (kind_meant k) t ≡ t
-sum_on_sums k t e = rw e
-
-pub sum_on_products : (k : Kind) (t : ℕ) → k ≡ Sum → on_side product (kind_meant k) t ≡ 0
-sum_on_products k t e = rw e
-
-pub product_on_sums : (k : Kind) (t : ℕ) → k ≡ Product → on_side sum (kind_meant k) t ≡ 0
-product_on_sums k t e = rw e
-
-pub product_on_products : (k : Kind) (t : ℕ) → k ≡ Product → on_side product (kind_meant k) t ≡ t
-product_on_products k t e = rw e
-
--- nothing is added, or the term is
-pub stays : (p t a : ℕ) → t ≡ 0 → a < p → a ≡ (t + a) % p
-stays p t a e h = sym (ap (λ (x : ℕ). (x + a) % p) e ∙ ap (λ (x : ℕ). x % p) (zero-add a) ∙ mod-eq_of_lt h)
-
-pub grows : (p u t a r : ℕ) → t ≡ u → r ≡ (u + a) % p → r ≡ (t + a) % p
-grows p u t a r e h = h ∙ ap (λ (x : ℕ). (x + a) % p) (sym e)
 
 module _ (p : ℕ) (weights at_x at_y : List ℕ) where
   wiring_more :

@@ -1,5 +1,5 @@
 -- Each turn adds the term of one gate more, and all numbers that it takes are reduced.
-use Rattle.std.proofs.Common.{◌≡◌, ℕ, ◌+◌, ◌^◌, ◌<◌, ◌≤◌, length, arith}
+use Rattle.std.proofs.Common.{◌^◌, ◌<◌, ◌≤◌, length, arith}
 use Rattle.arithmetic.proofs.Newton.{reduced_at}
 use Rattle.circuits.specs.Views.{gates_seen, gate_meant, no_gate}
 use Rattle.circuits.proofs.Steps.{length-gates_of}
@@ -21,9 +21,6 @@ mul-requires g c =
 pub mul-term-requires : goal.mul-term-requires
 mul-term-requires g c =
     (reduced_at g.M.Modular.modulus c.args.weights.now c.requires.weights.1 c.loop-i.i (omega arith), c.mul.ensures.below)
-
-pub add_term-requires-clause-gathered : goal.add_term-requires-clause-gathered
-add_term-requires-clause-gathered g c = (c.loop-i.invariant.sums_below, c.loop-i.invariant.products_below)
 
 pub loop-i-preserved : goal.loop-i-preserved
 loop-i-preserved g c =
