@@ -5,5 +5,5 @@
 mod outputs;
 mod values;
 
-pub use outputs::run;
+pub use outputs::{run, try_run};
 pub use values::{layer_values, work_out};

@@ -30,7 +30,8 @@ fn fill<M: Modular>(layers: LayersView, inputs: &[u32], room: &mut [u32])
     room.copy_from_slice(&values[0..layers.value_count()]);
 }
 
-fn try_run(circuit: &[u32], inputs: &[u32], room: &mut [u32]) -> Result<(), Refusal>
+// Leaves the outputs of all copies in the room, or refuses.
+pub fn try_run(circuit: &[u32], inputs: &[u32], room: &mut [u32]) -> Result<(), Refusal>
     ensures verdict { answer_of result ≡ run_verdict circuit.now inputs.now (length room.old) }
     ensures leaves { room.new ≡ run_leaves circuit.now inputs.now room.old }
 {
