@@ -3,7 +3,7 @@
 use judging::judge::{Judge, VerifierJudge, examine};
 use refusals::Refusal;
 use std::io;
-use verdicts::verdict::{Place, Verdict};
+use verdicts::verdict::Verdict;
 
 pub const MODULUS: u32 = 2147483647;
 
@@ -35,11 +35,7 @@ fn tell(rt: &HostRuntime, examined: Result<Verdict, Refusal>) -> io::Result<()> 
     match examined {
         Err(_) => println!(rt; "refused"),
         Ok(Verdict::Believed) => println!(rt; "believed"),
-        Ok(Verdict::Stopped(layer, place)) => match place {
-            Place::Variable(variable) => println!(rt; "layer {layer}, variable {variable}"),
-            Place::Values => println!(rt; "layer {layer}, values"),
-            Place::Inputs => println!(rt; "layer {layer}, inputs"),
-        },
+        Ok(Verdict::Stopped(layer, place)) => println!(rt; "layer {layer}, {place}"),
     }
 }
 

@@ -6,8 +6,7 @@ use Rattle.circuits.specs.Circuit.{Layer, Circuit}
 use Rattle.circuits.specs.Words.{modulus}
 use Rattle.argument.specs.Argument.{first_coins}
 use Rattle.verdicts.specs.Machine.{Stand, fits, next, doubt, settled, start}
-use Rattle.verdicts.specs.declared.verdict.Place.{Place}
-use Rattle.verdicts.specs.declared.verdict.Place.TheVariants.{Variable, Values, Inputs}
+use Rattle.verdicts.specs.Shown.{verdict_text}
 use Rattle.verdicts.specs.declared.verdict.Verdict.{Verdict}
 use Rattle.verdicts.specs.declared.verdict.Verdict.TheVariants.{Believed, Stopped}
 use Rattle.texts.specs.Texts.{numbers_of}
@@ -18,15 +17,6 @@ pub data Said : Type 0 where
   refusal : ℕ → Said
 
 -- ---- as text
-abbrev pub place_text : Place → List ℕ
-place_text (Variable i) = codes "variable " ++ decimal i
-place_text Values = codes "values"
-place_text Inputs = codes "inputs"
-
-abbrev pub verdict_text : Verdict → List ℕ
-verdict_text Believed = codes "believed"
-verdict_text (Stopped layer place) = codes "not believed, layer " ++ (decimal layer ++ (codes ", " ++ place_text place))
-
 abbrev pub said_text : Said → List ℕ
 said_text (coin r) = decimal r
 said_text (verdict v) = verdict_text v

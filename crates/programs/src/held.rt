@@ -24,6 +24,9 @@ pub fn check_held(circuit: &[u32], inputs: &[u32], claimed: &[u32]) -> Result<()
     check_reduced::<Mersenne31>(claimed)
 }
 
+// No circuit has more first coins.
+pub const MOST_FIRST_COINS: usize = 16;
+
 // How many coins choose the outputs' point.
 pub fn first_coins(circuit: &[u32]) -> usize
     requires { is_circuit circuit.now ≡ true }

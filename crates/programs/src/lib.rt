@@ -12,4 +12,3 @@ pub mod number;
 pub mod promises;
 pub mod room;
 pub mod scanner;
-pub mod verdict;

@@ -15,14 +15,8 @@ pub fn one_number(text: &[u8]) -> Result<u32, Refusal>
 {
     let mut room = [0u32; 1];
     match read_into(text, &mut room) {
-        Ok(count) => {
-            if count == 1 {
-                Ok(room[0])
-            } else {
-                Err(Refusal::UnknownForm)
-            }
-        }
-        Err(_) => Err(Refusal::UnknownForm),
+        Ok(1) => Ok(room[0]),
+        _ => Err(Refusal::UnknownForm),
     }
 }
 

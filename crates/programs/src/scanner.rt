@@ -3,36 +3,24 @@
 ghost use Rattle.std.specs.Prelude.{◌≡◌};
 ghost use Rattle.programs.specs.Scanning.{Pushed, at_end};
 
-use texts::digits::{HASH, LINE_END, append_digit, is_digit, is_space};
+use crate::drawn::{Drawn, NoNumber};
+use texts::digits::{append_digit, is_digit};
+use texts::gap::Gap;
 
-// Where the next byte stands: first in its line, later in it between words, in a comment, or in a word, after digits that
-// make this number.
+// Where the next byte stands: in no word, or in a word, after digits that make this number.
 #[derive(Clone, Copy)]
 pub enum Spot {
-    First,
-    Between,
-    Comment,
+    Gap(Gap),
     Word(u32),
 }
 
-#[derive(Clone, Copy)]
-pub enum Scanned {
-    // nothing yet
-    More,
-    Number(u32),
-    // a word that is no number
-    NoNumber,
-}
-
 impl Spot {
-    // Takes one more byte: where the byte after it stands, and what is known by it.
-    pub fn push(self, byte: u8) -> (Spot, Scanned)
+    // Takes one more byte: where the byte after it stands, and what is known by it, which may be nothing yet.
+    pub fn push(self, byte: u8) -> (Spot, Drawn)
         ensures { Pushed self byte result.0 result.1 }
     {
         match self {
-            Spot::First => push_first(byte),
-            Spot::Between => push_between(byte),
-            Spot::Comment => push_comment(byte),
+            Spot::Gap(gap) => push_gap(gap, byte),
             Spot::Word(number) => push_word(number, byte),
         }
     }
@@ -42,64 +30,28 @@ impl Spot {
         ensures { result ≡ at_end self }
     {
         match self {
-            Spot::First => None,
-            Spot::Between => None,
-            Spot::Comment => None,
+            Spot::Gap(_) => None,
             Spot::Word(number) => Some(number),
         }
     }
 }
 
-fn push_first(byte: u8) -> (Spot, Scanned)
-    ensures { Pushed Spot.First byte result.0 result.1 }
+fn push_gap(gap: Gap, byte: u8) -> (Spot, Drawn)
+    ensures { Pushed (Spot.Gap gap) byte result.0 result.1 }
 {
-    if byte == LINE_END {
-        (Spot::First, Scanned::More)
-    } else if byte == HASH {
-        (Spot::Comment, Scanned::More)
-    } else if is_space(byte) {
-        (Spot::Between, Scanned::More)
-    } else if is_digit(byte) {
-        (Spot::Word(append_digit(0, byte - b'0')), Scanned::More)
-    } else {
-        (Spot::First, Scanned::NoNumber)
+    match gap.past(byte) {
+        Some(after) => (Spot::Gap(after), Ok(None)),
+        None if is_digit(byte) => (Spot::Word(append_digit(0, byte - b'0')), Ok(None)),
+        None => (Spot::Gap(gap), Err(NoNumber)),
     }
 }
 
-fn push_between(byte: u8) -> (Spot, Scanned)
-    ensures { Pushed Spot.Between byte result.0 result.1 }
-{
-    if byte == LINE_END {
-        (Spot::First, Scanned::More)
-    } else if is_space(byte) {
-        (Spot::Between, Scanned::More)
-    } else if is_digit(byte) {
-        (Spot::Word(append_digit(0, byte - b'0')), Scanned::More)
-    } else {
-        (Spot::Between, Scanned::NoNumber)
-    }
-}
-
-fn push_comment(byte: u8) -> (Spot, Scanned)
-    ensures { Pushed Spot.Comment byte result.0 result.1 }
-{
-    if byte == LINE_END {
-        (Spot::First, Scanned::More)
-    } else {
-        (Spot::Comment, Scanned::More)
-    }
-}
-
-fn push_word(number: u32, byte: u8) -> (Spot, Scanned)
+fn push_word(number: u32, byte: u8) -> (Spot, Drawn)
     ensures { Pushed (Spot.Word number) byte result.0 result.1 }
 {
-    if byte == LINE_END {
-        (Spot::First, Scanned::Number(number))
-    } else if is_space(byte) {
-        (Spot::Between, Scanned::Number(number))
-    } else if is_digit(byte) {
-        (Spot::Word(append_digit(number, byte - b'0')), Scanned::More)
-    } else {
-        (Spot::Between, Scanned::NoNumber)
+    match Gap::Between.past(byte) {
+        Some(after) => (Spot::Gap(after), Ok(Some(number))),
+        None if is_digit(byte) => (Spot::Word(append_digit(number, byte - b'0')), Ok(None)),
+        None => (Spot::Gap(Gap::Between), Err(NoNumber)),
     }
 }

@@ -1,4 +1,5 @@
 pub mod Machine
+pub mod Shown
 pub mod Theorems
 pub mod Soundness
 pub mod Examples
