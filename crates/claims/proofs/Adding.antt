@@ -1,6 +1,6 @@
 -- Tables added place by place, and the weights that shares' tables add up to.
 -- The sum of one share's table and nothing is that table, since its numbers are reduced.
-use Rattle.std.proofs.Common.{◌≡◌, ℕ, suc, ◌+◌, ◌*◌, ◌%◌, ◌^◌, ◌<◌, ◌≤◌, T, ltb, ◌≢◌, List, [], ◌∷◌, ◌++◌, length, get_or, drop, set, sym, refl, ap, ◌∙◌, subst, add-zero, mod-lt, mod-eq_of_lt, arith, lt→ltb, length-set, get_or-set_other, get_or-set_same, pow_mono, below_more}
+use Rattle.std.proofs.Common.{◌≡◌, ℕ, suc, ◌+◌, ◌*◌, ◌%◌, ◌<◌, ◌≤◌, T, ltb, List, [], ◌∷◌, ◌++◌, length, get_or, drop, sym, ap, ◌∙◌, subst, add-zero, mod-lt, mod-eq_of_lt, arith, lt→ltb}
 use Rattle.std.proofs.lemmas.List.{append-nil, drop_all}
 use Rattle.arithmetic.specs.Numbers.{modulo, all_reduced}
 use Rattle.arithmetic.proofs.Truth.{and_both}
@@ -22,22 +22,6 @@ pub record Added (p : ℕ) (xs ys : List ℕ) (i : ℕ) (table : List ℕ) : Typ
   pub done : (k : ℕ) → k < i → get_or table k 0 ≡ (get_or xs k 0 + get_or ys k 0) % p
   pub left : (k : ℕ) → i ≤ k → get_or table k 0 ≡ get_or xs k 0
 
-pub added_none : (p : ℕ) (xs ys : List ℕ) → Added p xs ys 0 xs
-added_none p xs ys = record { size = refl; done = λ k h. absurd (omega arith); left = λ k h. refl }
-
-pub added_more : (p : ℕ) (xs ys table : List ℕ) (i r : ℕ) → Added p xs ys i table → i < length xs →
-    r ≡ (get_or table i 0 + get_or ys i 0) % p → Added p xs ys (i + 1) (set table i r)
-added_more p xs ys table i r a h e =
-    record {
-      size = length-set table i r ∙ a.size;
-      done =
-          below_more (λ k. get_or (set table i r) k 0 ≡ (get_or xs k 0 + get_or ys k 0) % p) i
-          (λ k l. let ne : k ≢ i = omega arith in get_or-set_other table i k r 0 ne ∙ a.done k l)
-          (let room : i < length table = omega (arith, a.size) in
-          get_or-set_same table i r 0 room ∙ e ∙ ap (λ (x : ℕ). (x + get_or ys i 0) % p) (a.left i (omega arith)));
-      left = λ k l. let ne : k ≢ i = omega arith in get_or-set_other table i k r 0 ne ∙ a.left k (omega arith);
-    }
-
 pub added_reduced : (p : ℕ) (xs ys table : List ℕ) (i : ℕ) → 0 < p → length xs ≤ i → Added p xs ys i table → T (all_reduced (modulo p) table)
 added_reduced p xs ys table i positive h a =
     reduced_from p table
@@ -50,10 +34,6 @@ plus_nothing p x h = sym (ap (λ (n : ℕ). n % p) (add-zero x) ∙ mod-eq_of_lt
 -- a table that fills its room
 pub filled : (room table words : List ℕ) (n : ℕ) → length room ≡ n → words ≡ table ++ drop n room → words ≡ table
 filled room table words n e h = h ∙ ap (λ (xs : List ℕ). table ++ xs) (drop_all n room (omega arith)) ∙ append-nil table
-
--- no table has more places
-pub pow_at_most : (n : ℕ) → n ≤ 16 → 2 ^ n ≤ 65536
-pow_at_most n h = pow_mono h
 
 -- the weights of one share, and of two
 module _ (p size : ℕ) (positive : 0 < p) where

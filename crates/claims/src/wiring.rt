@@ -1,5 +1,5 @@
 // A layer's wiring in one pass over its gates: what its sums add up to, and what its products do.
-// The gates come from the last to the first, as the definition adds them up.
+// Each gate adds its term on the side of its kind.
 
 #[derive(Clone, Copy)]
 pub struct Wiring {

@@ -1,9 +1,10 @@
 -- Which stand of the machine a verifier is at.
 -- An array's words beyond a point's coordinates mean nothing.
-use Rattle.std.specs.Prelude.{ℕ, List, take}
+use Rattle.std.specs.Prelude.{ℕ, List}
 use Rattle.circuits.specs.Circuit.{size_below}
 use Rattle.circuits.specs.Views.{layers_seen, copies_above, inputs_below}
 use Rattle.verdicts.specs.Machine.{Stand}
+use Rattle.claims.specs.Drawing.{coins_drawn}
 use Rattle.claims.specs.Meaning.{claim_meant}
 use Rattle.verifier.specs.declared.verifier.Verifier.{Verifier}
 
@@ -18,7 +19,7 @@ stand_of v =
       layer = v.layer;
       layers = layers;
       claim = claim_meant copies (size_below layers inputs) v.claim;
-      point = take v.drawn v.point;
+      point = coins_drawn v.drawn;
       total = v.total;
     }
 

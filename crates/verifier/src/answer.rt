@@ -3,23 +3,18 @@
 ghost use Rattle.std.specs.Prelude.{◌<◌};
 ghost use Rattle.circuits.specs.Words.{modulus};
 
-mod turning;
+use claims::message::Message;
 
-// The numbers of an answer: the values of a variable's polynomial at 0 to 3, or the two values below.
-#[derive(Clone, Copy)]
-pub enum Numbers {
-    Four([u32; 4]),
-    Two([u32; 2]),
-}
+mod turning;
 
 // What the verifier has read and found to fit where it stands.
 pub struct Answer {
-    numbers: Numbers,
+    message: Message,
 }
 
 // The coin that fell for an answer, and that answer.
 pub struct Coin {
-    numbers: Numbers,
+    message: Message,
     word: u32,
     ghost reduced: { word < modulus },
 }

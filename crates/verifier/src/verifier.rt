@@ -5,14 +5,16 @@ ghost use Rattle.arithmetic.specs.Numbers.{modulo, all_reduced};
 ghost use Rattle.circuits.specs.Views.{layers_seen, copies_above, inputs_below};
 ghost use Rattle.circuits.specs.Words.{modulus};
 ghost use Rattle.verdicts.specs.Machine.{variables};
+ghost use Rattle.claims.specs.Drawing.{coins_drawn};
 
 use circuits::LayersView;
 use claims::claim::Claim;
-use claims::cut::MOST_VARIABLES;
+use claims::drawn::Drawn;
 
 mod due;
 mod expect;
 mod moves;
+mod parts;
 mod read;
 mod settle;
 mod start;
@@ -26,15 +28,13 @@ pub struct Verifier<'a> {
     // how many layers are done
     layer: usize,
     claim: Claim,
-    // the coins of this layer's variables so far, at the start of the array
-    point: [u32; MOST_VARIABLES],
-    drawn: usize,
+    // the coins of this layer's variables so far
+    drawn: Drawn,
     // what is claimed of the sum over the corners that are left
     total: u32,
     ghost inputs_whole: { length inputs.now ≡ 2 ^ (copies_above layers + inputs_below layers) },
     ghost inputs_reduced: { all_reduced (modulo modulus) inputs.now ≡ true },
     ghost numbered: { layer + length (layers_seen layers) ≤ 32 },
-    ghost within: { drawn ≤ variables (copies_above layers) (inputs_below layers) (layers_seen layers) },
-    ghost point_reduced: { all_reduced (modulo modulus) point ≡ true },
+    ghost within: { length (coins_drawn drawn) ≤ variables (copies_above layers) (inputs_below layers) (layers_seen layers) },
     ghost total_reduced: { total < modulus },
 }

@@ -11,23 +11,19 @@ use super::Wiring;
 use arithmetic::modular::Modular;
 use circuits::{Kind, LayerView};
 
-// One gate's term more, on the side of its kind.
-fn add_term<M: Modular>(kind: Kind, term: u32, gathered: Wiring) -> Wiring
-    requires term { term < M.modulus }
-    requires gathered { (gathered.sums < M.modulus) × (gathered.products < M.modulus) }
-    ensures sums { result.sums ≡ ((if same_kind sum (kind_meant kind) then term else 0) + gathered.sums) % M.modulus }
-    ensures products { result.products ≡ ((if same_kind product (kind_meant kind) then term else 0) + gathered.products) % M.modulus }
-    ensures below { (result.sums < M.modulus) × (result.products < M.modulus) }
-{
-    match kind {
-        Kind::Sum => Wiring {
-            sums: M::add(term, gathered.sums),
-            products: gathered.products,
-        },
-        Kind::Product => Wiring {
-            sums: gathered.sums,
-            products: M::add(term, gathered.products),
-        },
+impl Wiring {
+    // One gate's term more, on the side of its kind.
+    fn add_term<M: Modular>(&mut self, kind: Kind, term: u32)
+        requires term { term < M.modulus }
+        requires gathered { (self.old.sums < M.modulus) × (self.old.products < M.modulus) }
+        ensures sums { self.new.sums ≡ ((if same_kind sum (kind_meant kind) then term else 0) + self.old.sums) % M.modulus }
+        ensures products { self.new.products ≡ ((if same_kind product (kind_meant kind) then term else 0) + self.old.products) % M.modulus }
+        ensures below { (self.new.sums < M.modulus) × (self.new.products < M.modulus) }
+    {
+        match kind {
+            Kind::Sum => self.sums = M::add(term, self.sums),
+            Kind::Product => self.products = M::add(term, self.products),
+        }
     }
 }
 
@@ -41,10 +37,10 @@ pub fn gather<M: Modular>(layer: LayerView, weights: &[u32], at_x: &[u32], at_y:
         sums: 0,
         products: 0,
     };
-    for i in (0..layer.gate_count()).rev() {
+    for (i, weight) in weights.iter().enumerate() {
         let gate = layer.gate(i);
-        let term = M::mul(weights[i], M::mul(at_x[gate.left], at_y[gate.right]));
-        gathered = add_term::<M>(gate.kind, term, gathered);
+        let term = M::mul(*weight, M::mul(at_x[gate.left], at_y[gate.right]));
+        gathered.add_term::<M>(gate.kind, term);
     }
     gathered
 }

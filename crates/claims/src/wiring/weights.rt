@@ -17,8 +17,9 @@ fn add_tables<M: Modular>(table: &mut [u32], other: &[u32])
     ensures sums { (i : ℕ) → i < length table.old → slice_index table.new i ≡ (slice_index table.old i + slice_index other.now i) % M.modulus }
     ensures reduced { T (all_reduced (modulo M.modulus) table.new) }
 {
-    for i in 0..table.len() {
-        table[i] = M::add(table[i], other[i]);
+    // a zip with `iter_mut` says nothing of what the table holds after it
+    for (i, number) in table.iter_mut().enumerate() {
+        *number = M::add(*number, other[i]);
     }
 }
 

@@ -39,6 +39,6 @@ impl<'a> Verifier<'a> {
     pub fn variable_due(&self) -> bool
         ensures { result ≡ variable_due (stand_of self.now) }
     {
-        self.drawn < self.variables()
+        self.drawn.len() < self.variables()
     }
 }

@@ -11,9 +11,9 @@ ghost use Rattle.claims.specs.Meaning.{numbers};
 ghost use Rattle.verifier.specs.Meaning.{stand_of};
 
 use super::Verifier;
+use super::parts::Parts;
 use arithmetic::mersenne::Mersenne31;
 use arithmetic::modular::Modular;
-use claims::claim::views::view_second;
 use claims::wiring::Wiring;
 use claims::wiring::layer::wire_shares;
 use tables::eq::eq_at;
@@ -40,19 +40,9 @@ impl<'a> Verifier<'a> {
         ensures below { (result.sums < modulus31) × (result.products < modulus31) }
     {
         let layer = self.layers.first();
-        let size = layer.size() as usize;
-        let from_x = self.layers.copies() as usize;
-        let from_y = from_x + self.size_below();
-        let end = from_y + self.size_below();
-        let first = self.claim.first.view(size);
-        let second = view_second(&self.claim.second, size);
-        wire_shares::<Mersenne31>(
-            layer,
-            first,
-            second,
-            &self.point[from_x..from_y],
-            &self.point[from_y..end],
-        )
+        let shares = self.claim.shares.view(layer.size() as usize);
+        let Parts { x, y, .. } = self.parts();
+        wire_shares::<Mersenne31>(layer, shares, x, y)
     }
 
     // E: the eq polynomial of the claim's point among the copies and the coins' one.
@@ -62,8 +52,8 @@ impl<'a> Verifier<'a> {
         ensures value { result ≡ eq_poly numbers (stand_of self.now).claim.copy (point_c (stand_of self.now)) }
         ensures below { result < modulus31 }
     {
-        let copies = self.layers.copies() as usize;
-        eq_at::<Mersenne31>(&self.claim.copy[0..copies], &self.point[0..copies])
+        let point = self.parts().copies;
+        eq_at::<Mersenne31>(&self.claim.copy[0..point.len()], point)
     }
 
     pub(super) fn expected(&self, a: u32, b: u32) -> u32

@@ -9,7 +9,7 @@ ghost use Rattle.verifier.specs.Meaning.{stand_of, inputs_of};
 
 use super::Verifier;
 use claims::claim::Claim;
-use claims::cut::MOST_VARIABLES;
+use claims::drawn::Drawn;
 
 impl<'a> Verifier<'a> {
     // The next variable, after a coin, with what is then claimed of the sum.
@@ -19,15 +19,14 @@ impl<'a> Verifier<'a> {
         ensures stand { stand_of result ≡ after_variable (stand_of self.now) coin total }
         ensures inputs { inputs_of result ≡ inputs_of self.now }
     {
-        let mut point = self.point;
-        point[self.drawn] = coin;
+        let mut drawn = self.drawn;
+        drawn.push(coin);
         Verifier {
             layers: self.layers,
             inputs: self.inputs,
             layer: self.layer,
             claim: self.claim,
-            point,
-            drawn: self.drawn + 1,
+            drawn,
             total,
         }
     }
@@ -43,8 +42,7 @@ impl<'a> Verifier<'a> {
             inputs: self.inputs,
             layer: self.layer + 1,
             claim,
-            point: [0; MOST_VARIABLES],
-            drawn: 0,
+            drawn: Drawn::new(),
             total: claim.total,
         }
     }

@@ -7,7 +7,6 @@ ghost use Rattle.verifier.specs.Meaning.{stand_of, inputs_of};
 
 use super::Verifier;
 use arithmetic::mersenne::Mersenne31;
-use claims::claim::views::view_second;
 use claims::sums::sum_shares;
 use verdicts::verdict::{Place, Verdict};
 
@@ -18,9 +17,8 @@ impl<'a> Verifier<'a> {
     {
         let copies = self.layers.copies() as usize;
         let size = self.layers.inputs() as usize;
-        let first = self.claim.first.view(size);
-        let second = view_second(&self.claim.second, size);
-        let sum = sum_shares::<Mersenne31>(self.inputs, &self.claim.copy[0..copies], first, second);
+        let shares = self.claim.shares.view(size);
+        let sum = sum_shares::<Mersenne31>(self.inputs, &self.claim.copy[0..copies], shares);
         if sum == self.claim.total {
             Verdict::Believed
         } else {

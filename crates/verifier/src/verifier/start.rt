@@ -11,8 +11,9 @@ ghost use Rattle.verifier.specs.Meaning.{stand_of, inputs_of};
 use super::Verifier;
 use arithmetic::mersenne::Mersenne31;
 use circuits::CircuitView;
-use claims::claim::{Claim, Share};
-use claims::cut::{MOST_VARIABLES, cut};
+use claims::claim::{Claim, Share, Shares};
+use claims::cut::cut;
+use claims::drawn::Drawn;
 use claims::extension::extension_at;
 
 impl<'a> Verifier<'a> {
@@ -34,19 +35,20 @@ impl<'a> Verifier<'a> {
         let total = extension_at::<Mersenne31>(claimed, coins);
         let copy = cut(coins, 0, copies);
         let point = cut(coins, copies, size);
-        let first = Share { factor: 1, point };
+        let shares = Shares {
+            first: Share { factor: 1, point },
+            second: None,
+        };
         Verifier {
             layers,
             inputs,
             layer: 0,
             claim: Claim {
                 copy,
-                first,
-                second: None,
+                shares,
                 total,
             },
-            point: [0; MOST_VARIABLES],
-            drawn: 0,
+            drawn: Drawn::new(),
             total,
         }
     }

@@ -9,12 +9,14 @@ ghost use Rattle.verifier.specs.Answers.{coin_answer, coin_word};
 ghost use Rattle.verifier.specs.Meaning.{stand_of, inputs_of};
 
 use super::Verifier;
-use crate::answer::{Coin, Numbers};
+use super::parts::Parts;
+use crate::answer::Coin;
 use arithmetic::cubic::cubic_at;
 use arithmetic::mersenne::Mersenne31;
 use arithmetic::modular::Modular;
-use claims::claim::{Claim, Share};
+use claims::claim::{Claim, Share, Shares};
 use claims::cut::cut;
+use claims::message::Message;
 
 impl<'a> Verifier<'a> {
     // Shares 1 at x and the coin at y, and the total a + coin b, at the copies' point c.
@@ -25,21 +27,19 @@ impl<'a> Verifier<'a> {
         requires coin { coin < modulus }
         ensures { claim_meant (stand_of self.now).copies (size_under (stand_of self.now)) result ≡ claim_below field (point_c (stand_of self.now)) (point_x (stand_of self.now)) (point_y (stand_of self.now)) (slice_index values 0) (slice_index values 1) coin }
     {
-        let copies = self.layers.copies() as usize;
-        let below = self.size_below();
-        let copy = cut(&self.point, 0, copies);
-        let x = cut(&self.point, copies, below);
-        let y = cut(&self.point, copies + below, below);
+        let Parts { copies, x, y } = self.parts();
         Claim {
-            copy,
-            first: Share {
-                factor: 1,
-                point: x,
+            copy: cut(copies, 0, copies.len()),
+            shares: Shares {
+                first: Share {
+                    factor: 1,
+                    point: cut(x, 0, x.len()),
+                },
+                second: Some(Share {
+                    factor: coin,
+                    point: cut(y, 0, y.len()),
+                }),
             },
-            second: Some(Share {
-                factor: coin,
-                point: y,
-            }),
             total: Mersenne31::add(values[0], Mersenne31::mul(coin, values[1])),
         }
     }
@@ -50,13 +50,13 @@ impl<'a> Verifier<'a> {
         ensures stand { stand_of self.new ≡ next field (stand_of self.old) (coin_answer coin) (coin_word coin) }
         ensures inputs { inputs_of self.new ≡ inputs_of self.old }
     {
-        let (numbers, word) = coin.spend();
-        match numbers {
-            Numbers::Four(values) => {
+        let (message, word) = coin.spend();
+        match message {
+            Message::Round(values) => {
                 let total = cubic_at::<Mersenne31>(values, word);
                 *self = self.advanced(word, total);
             }
-            Numbers::Two(values) => {
+            Message::Values(values) => {
                 let claim = self.claim_below(values, word);
                 *self = self.descended(claim);
             }

@@ -1,29 +1,21 @@
--- The part is copied to the start of an array of zeros.
-use Rattle.std.proofs.Common.{◌≡◌, ℕ, ◌+◌, ◌-◌, true, List, take, drop, replicate, sym, refl, ap, ◌∙◌, subst, arith}
-use borrow.Rule.Slice.PartMut.{post_of}
+-- The part is reduced, and so are the zeros behind it.
+use Rattle.std.proofs.Common.{◌≡◌, ℕ, ◌+◌, ◌-◌, true, List, drop, replicate, sym, refl, subst}
 use Rattle.arithmetic.specs.Numbers.{modulo, all_reduced}
 use Rattle.circuits.specs.Words.{modulus}
-use Rattle.claims.proofs.Cutting.{reduced_part, reduced_rest, reduced_both, front_is, zeros_behind}
+use Rattle.claims.proofs.Cutting.{reduced_part, reduced_rest, reduced_both}
 use Rattle.claims.proofs.cut.cut.Goals as goal
 
 reduced_zeros : all_reduced (modulo modulus) (replicate 16 0) ≡ true
 unfolding all_reduced
 reduced_zeros = refl
 
-pub returns : goal.returns
-returns c =
+pub returns-clause-reduced : goal.returns-clause-reduced
+returns-clause-reduced c =
     let numbers = c.args.numbers.now in
-    let len = c.args.len in
-    let from = c.args.from in
-    let taken : c.copy_from_slice.new.self ≡ take (from + len - from) (drop from numbers) = c.copy_from_slice.ensures.after in
-    let copied : c.copy_from_slice.new.self ≡ take len (drop from numbers) =
-    taken ∙ ap (λ (n : ℕ). take n (drop from numbers)) (let e : from + len - from ≡ len = omega arith in e)
+    let copied = c.copy_from_slice.new.self in
+    let rest = drop (c.args.len - 0) (replicate 16 0) in
+    let part : all_reduced (modulo modulus) copied ≡ true =
+    subst (λ (xs : List ℕ). all_reduced (modulo modulus) xs ≡ true) (sym c.copy_from_slice.ensures.after)
+    (reduced_part modulus c.args.from (c.args.from + c.args.len - c.args.from) numbers c.requires.reduced)
     in
-    record {
-      part = front_is len from numbers c.copy_from_slice.new.self (post_of 0 (len - 0) (replicate 16 0)) copied c.requires.within.0;
-      zeros = zeros_behind len from 16 (len - 0) numbers c.copy_from_slice.new.self copied c.requires.within.0 (omega arith);
-      reduced =
-          reduced_both modulus c.copy_from_slice.new.self (drop (len - 0) (replicate 16 0))
-          (subst (λ (xs : List ℕ). all_reduced (modulo modulus) xs ≡ true) (sym copied) (reduced_part modulus from len numbers c.requires.reduced))
-          (reduced_rest modulus (len - 0) (replicate 16 0) reduced_zeros);
-    }
+    reduced_both modulus copied rest part (reduced_rest modulus (c.args.len - 0) (replicate 16 0) reduced_zeros)

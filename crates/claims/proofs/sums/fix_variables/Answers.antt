@@ -2,20 +2,15 @@
 use Rattle.std.proofs.Common.{◌≡◌, ◌-◌, ◌++◌, length, take, drop, refl, arith}
 use Rattle.std.proofs.lemmas.List.{length-append, length-drop, length-take-le}
 use Rattle.arithmetic.proofs.Newton.{reduced_at}
-use Rattle.claims.proofs.Summing.{fixing_none, fixing_more, fixing_all}
+use Rattle.claims.proofs.Summing.{fixing_more}
 use Rattle.tables.proofs.ReducedLists.{reduced_take, reduced_append, reduced_drop}
 use Rattle.claims.proofs.sums.fix_variables.Goals as goal
 
-pub loop-r-init : goal.loop-r-init
-loop-r-init g c = fixing_none g.M.Modular.modulus c.args.table.now c.args.point.now c.requires.reduced.0
+pub fix_first-requires-clause-reduced : goal.fix_first-requires-clause-reduced
+fix_first-requires-clause-reduced g c = reduced_take g.M.Modular.modulus (c.loop-r.len - 0) c.loop-r.table c.loop-r.invariant.reduced
 
-pub fix_first-requires : goal.fix_first-requires
-fix_first-requires g c =
-    let p = g.M.Modular.modulus in
-    record {
-      reduced = reduced_take p (c.loop-r.len - 0) c.loop-r.table c.loop-r.invariant.reduced;
-      r_below = reduced_at p c.args.point.now c.requires.reduced.1 c.loop-r.r-index (omega arith);
-    }
+pub fix_first-requires-clause-r_below : goal.fix_first-requires-clause-r_below
+fix_first-requires-clause-r_below g c = reduced_at g.M.Modular.modulus c.args.point.now c.requires.reduced.1 c.loop-r.r-index (omega arith)
 
 pub loop-r-preserved : goal.loop-r-preserved
 loop-r-preserved g c =
@@ -29,13 +24,3 @@ loop-r-preserved g c =
     fixing_more c.loop-r.invariant c.fix_first.new.table _ (c.loop-r.len - 0) (omega arith) c.loop-r-test.true
     c.fix_first.ensures.words c.fix_first.ensures.reduced refl long
     (reduced_append p c.fix_first.new.table _ c.fix_first.ensures.reduced (reduced_drop p (c.loop-r.len - 0) c.loop-r.table c.loop-r.invariant.reduced))
-
-pub returns : goal.returns
-returns g c =
-    let end = fixing_all c.loop-r.invariant (omega arith) in
-    record {
-      fits = c.loop-r.invariant.fits;
-      left = λ z e. (end z e).0;
-      values = λ z e. (end z e).1;
-      reduced = c.loop-r.invariant.reduced;
-    }

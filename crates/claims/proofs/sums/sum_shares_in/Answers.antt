@@ -1,6 +1,5 @@
 -- What is left after the copies' variables are fixed leads to the value at each share's whole point.
 use Rattle.std.proofs.Common.{◌≡◌, ℕ, ◌+◌, ◌-◌, ◌^◌, List, ◌++◌, length, take, Some, None, Option, sym, ap, ◌∙◌, arith}
-use Rattle.std.proofs.lemmas.List.{length-take-le}
 use Rattle.arithmetic.specs.Numbers.{modulo}
 use Rattle.tables.specs.Multilinear.{mle}
 use Rattle.tables.proofs.ReducedLists.{reduced_take}
@@ -13,21 +12,9 @@ second_size : (p n : ℕ) (second : Option ShareView) → SecondFits p n second 
 second_size p n None fit = tt
 second_size p n (Some s) fit = (fit.coordinates, tt)
 
-pub add_shares-requires : goal.add_shares-requires
-add_shares-requires g c =
-    let p = g.M.Modular.modulus in
-    let left = c.fix_variables-left.result in
-    let table = c.fix_variables-left.new.table in
-    let z = c.args.shares.first.point.now in
-    let size : length c.copy_from_slice.new.self ≡ 2 ^ (length c.args.copy.now + length z) =
-    ap length c.copy_from_slice.ensures.after ∙ c.requires.length.0
-    in
-    let count : left ≡ 2 ^ length z = c.fix_variables-left.ensures.left z size in
-    record {
-      length = (length-take-le (left - 0) table (omega (arith, c.fix_variables-left.ensures.fits)) ∙ omega (arith, count), c.requires.length.1);
-      reduced = reduced_take p (left - 0) table c.fix_variables-left.ensures.reduced;
-      shares = c.requires.shares;
-    }
+pub add_shares-requires-clause-reduced : goal.add_shares-requires-clause-reduced
+add_shares-requires-clause-reduced g c =
+    reduced_take g.M.Modular.modulus (c.fix_variables-left.result - 0) c.fix_variables-left.new.table c.fix_variables-left.ensures.reduced
 
 pub returns : goal.returns
 returns g c =

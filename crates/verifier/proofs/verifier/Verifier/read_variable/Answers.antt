@@ -5,5 +5,5 @@ use Rattle.verifier.proofs.verifier.Verifier.read_variable.Goals as goal
 
 pub add-requires : goal.add-requires
 add-requires c =
-    let at = formed_at 4 c.in-Some.values c.args.said.now c.in-Some.ensures.0 c.in-Some.ensures.1 in
+    let at = formed_at 4 c.in_ok-values.values c.args.said.now c.in_ok-values.ensures.0 c.in_ok-values.ensures.1 in
     (at 0 (omega arith), at 1 (omega arith))

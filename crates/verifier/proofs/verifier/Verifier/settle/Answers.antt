@@ -1,14 +1,14 @@
 -- The views of the shares are cut to the inputs' size, as no layer is left.
-use Rattle.std.proofs.Common.{◌≡◌, ℕ, ◌+◌, ◌-◌, ◌^◌, ◌≤◌, List, ◌∷◌, length, take, Option, sym, ap, ◌∙◌, subst, ap₂, arith, rules}
+use Rattle.std.proofs.Common.{◌≡◌, ℕ, ◌+◌, ◌-◌, ◌^◌, ◌≤◌, List, length, take, sym, ap, ◌∙◌, subst, ap₂, arith, rules}
 use Rattle.arithmetic.proofs.Truth.{T_of_path}
 use Rattle.circuits.specs.Circuit.{size_below}
 use Rattle.circuits.specs.Words.{modulus}
 use Rattle.circuits.proofs.Parts.{layers_parts}
 use Rattle.argument.specs.Claims.{Share, share_sum}
 use Rattle.verdicts.proofs.Stepping.{settled_so, settled-not}
-use Rattle.claims.specs.Meaning.{numbers, share_meant, others}
-use Rattle.claims.specs.declared.share.ShareView.{ShareView}
-use Rattle.claims.specs.Shares.{share_seen, second_seen, shares_seen, ShareFits, SecondFits}
+use Rattle.claims.specs.Meaning.{numbers, shares_meant}
+use Rattle.claims.specs.declared.share.SharesView.{SharesView}
+use Rattle.claims.specs.Shares.{shares_seen, SharesFit}
 use Rattle.claims.proofs.PointParts.{part_reduced, part_length}
 use Rattle.verifier.specs.declared.verifier.Verifier.{Verifier}
 use Rattle.verifier.specs.Meaning.{stand_of, inputs_of}
@@ -18,45 +18,38 @@ use Rattle.verifier.proofs.verifier.Verifier.settle.Goals as goal
 limit : (v : Verifier) → (stand_of v).copies + (stand_of v).inputs ≤ 16
 limit v = (layers_parts v.layers.copies v.layers.inputs v.layers.count v.layers.words.now v.layers.lawful).limit
 
-pub view-first-requires : goal.view-first-requires
-view-first-requires c = omega (arith, limit c.args.self.now, c.inputs-size.ensures)
+pub view-shares-requires : goal.view-shares-requires
+view-shares-requires c = omega (arith, limit c.args.self.now, c.inputs-size.ensures)
 
-pub view_second-second-requires : goal.view_second-second-requires
-view_second-second-requires c = omega (arith, limit c.args.self.now, c.inputs-size.ensures)
-
-pub sum_shares-sum-requires : goal.sum_shares-sum-requires
-sum_shares-sum-requires c =
+pub sum_shares-sum-requires-clause-length : goal.sum_shares-sum-requires-clause-length
+sum_shares-sum-requires-clause-length c =
     let v = c.args.self.now in
     let room : length v.claim.copy ≡ 16 = search rules in
     let n : ℕ = c.copies-copies.result - 0 in
     let bits = limit v in
-    let fit = c.view-first.ensures.fits in
-    let size : length c.view-first.result.point.now ≡ c.inputs-size.result = fit.coordinates in
+    let size : length c.view-shares.result.first.point.now ≡ c.inputs-size.result = c.view-shares.ensures.fits.first.coordinates in
     let long : length (take n v.claim.copy) ≡ n = part_length 0 n v.claim.copy (omega (arith, c.copies-copies.ensures.value)) in
-    let bits_are : (stand_of v).copies + (stand_of v).inputs ≡ length (take n v.claim.copy) + length c.view-first.result.point.now =
+    let bits_are : (stand_of v).copies + (stand_of v).inputs ≡ length (take n v.claim.copy) + length c.view-shares.result.first.point.now =
     omega (arith, long, size, c.copies-copies.ensures.value, c.inputs-size.ensures)
     in
-    record {
-      length = (v.inputs_whole ∙ ap (λ (k : ℕ). 2 ^ k) bits_are, omega (arith, bits_are));
-      reduced = (T_of_path _ v.inputs_reduced, part_reduced 0 n v.claim.copy v.claim.copy_reduced);
-      first = subst (λ (k : ℕ). ShareFits modulus k c.view-first.result) (sym size) fit;
-      second = subst (λ (k : ℕ). SecondFits modulus k c.view_second-second.result) (sym size) c.view_second-second.ensures.fits;
-    }
+    (v.inputs_whole ∙ ap (λ (k : ℕ). 2 ^ k) bits_are, omega (arith, bits_are))
+
+pub sum_shares-sum-requires-clause-reduced : goal.sum_shares-sum-requires-clause-reduced
+sum_shares-sum-requires-clause-reduced c =
+    let v = c.args.self.now in
+    (T_of_path _ v.inputs_reduced, part_reduced 0 (c.copies-copies.result - 0) v.claim.copy v.claim.copy_reduced)
 
 -- the sum that is worked out is the claim's
 sum_is :
-    (v : Verifier) (n size sum : ℕ) (first : ShareView) (second : Option ShareView) → length (stand_of v).layers ≡ 0 →
-    n ≡ (stand_of v).copies → size ≡ (stand_of v).inputs → share_seen first ≡ share_meant size v.claim.first →
-    second_seen second ≡ others size v.claim.second →
-    sum ≡ share_sum numbers (inputs_of v) (take n v.claim.copy) (shares_seen first second) →
+    (v : Verifier) (n size sum : ℕ) (shares : SharesView) → length (stand_of v).layers ≡ 0 → n ≡ (stand_of v).copies →
+    size ≡ (stand_of v).inputs → shares_seen shares ≡ shares_meant size v.claim.shares →
+    sum ≡ share_sum numbers (inputs_of v) (take n v.claim.copy) (shares_seen shares) →
     sum ≡ share_sum numbers (inputs_of v) (stand_of v).claim.copy (stand_of v).claim.shares
-sum_is v n size sum first second none en es ef eo h =
+sum_is v n size sum shares none en es em h =
     let whole : size ≡ size_below (stand_of v).layers (stand_of v).inputs = es ∙ sym (size_below_none (stand_of v).layers (stand_of v).inputs none) in
-    let shares : shares_seen first second ≡ (stand_of v).claim.shares =
-    ap₂ {B = List (Share ℕ)} (λ (x : Share ℕ) (xs : List (Share ℕ)). x ∷ xs)
-    (ef ∙ ap (λ (k : ℕ). share_meant k v.claim.first) whole) (eo ∙ ap (λ (k : ℕ). others k v.claim.second) whole)
-    in
-    h ∙ ap₂ (λ (k : ℕ) (ss : List (Share ℕ)). share_sum numbers (inputs_of v) (take k v.claim.copy) ss) en shares
+    h ∙
+    ap₂ (λ (k : ℕ) (ss : List (Share ℕ)). share_sum numbers (inputs_of v) (take k v.claim.copy) ss) en
+    (em ∙ ap (λ (k : ℕ). shares_meant k v.claim.shares) whole)
 
 pub returns-then-sum-self : goal.returns-then-sum-self
 returns-then-sum-self c =
@@ -64,8 +57,8 @@ returns-then-sum-self c =
     let sum = c.sum_shares-sum.result in
     let copies : c.copies-copies.result - 0 ≡ (stand_of v).copies = omega (arith, c.copies-copies.ensures.value) in
     settled_so modulus (inputs_of v) (stand_of v) sum
-    (sum_is v _ _ sum c.view-first.result c.view_second-second.result c.requires copies c.inputs-size.ensures c.view-first.ensures.meant
-    c.view_second-second.ensures.meant c.sum_shares-sum.ensures)
+    (sum_is v _ _ sum c.view-shares.result c.requires copies c.inputs-size.ensures c.view-shares.ensures.meant
+    c.sum_shares-sum.ensures)
     c.if-sum-self.true
 
 pub returns-else-sum-self : goal.returns-else-sum-self
@@ -74,6 +67,6 @@ returns-else-sum-self c =
     let sum = c.sum_shares-sum.result in
     let copies : c.copies-copies.result - 0 ≡ (stand_of v).copies = omega (arith, c.copies-copies.ensures.value) in
     settled-not modulus (inputs_of v) (stand_of v) sum
-    (sum_is v _ _ sum c.view-first.result c.view_second-second.result c.requires copies c.inputs-size.ensures c.view-first.ensures.meant
-    c.view_second-second.ensures.meant c.sum_shares-sum.ensures)
+    (sum_is v _ _ sum c.view-shares.result c.requires copies c.inputs-size.ensures c.view-shares.ensures.meant
+    c.sum_shares-sum.ensures)
     c.if-sum-self.false
