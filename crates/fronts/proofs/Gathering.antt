@@ -4,13 +4,15 @@ use Rattle.std.proofs.Common.{◌≡◌, ℕ, zero, suc, ◌+◌, ◌*◌, ◌%�
 use native.Mathlib.Nat.{suc_inj}
 use Rattle.std.proofs.lemmas.List.Edits.{map_over_more}
 use Rattle.std.proofs.lemmas.List.{append-nil, drop_more, drop_all, drop-drop, drop-set-lt, get_or-drop, get_or_default, set-get_or, take_all}
-use Rattle.arithmetic.specs.Numbers.{modulo, all_reduced}
+use Rattle.arithmetic.specs.Numbers.{Numbers, modulo, all_reduced}
 use Rattle.arithmetic.proofs.Newton.{reduced_at}
 use Rattle.arithmetic.proofs.Truth.{and_left, and_right, and_both}
-use Rattle.circuits.specs.Circuit.{Gate}
-use Rattle.circuits.specs.Views.{no_gate}
+use Rattle.circuits.specs.Circuit.{Kind, Gate}
+use Rattle.circuits.specs.Views.{kind_meant, gate_meant, no_gate}
+use Rattle.circuits.specs.declared.gate.Gate as gate
 use Rattle.evaluation.proofs.WorkingOut.{fill_more, fill_all}
-use Rattle.fronts.specs.Gathers.{add_at, to_product, to_rest, gather_h, gather_j, weights_at, gather_hy, gather_jy}
+use Rattle.fronts.specs.Gathers.{add_at, to_product, to_rest, gathered, gather_h, gather_j, weights_at, gather_hy, gather_jy}
+use Rattle.fronts.specs.Picks.{Within, Picks}
 
 pub reduced_set : (p : ℕ) (xs : List ℕ) (i a : ℕ) → T (all_reduced (modulo p) xs) → a < p → T (all_reduced (modulo p) (set xs i a))
 unfolding all_reduced
@@ -32,65 +34,70 @@ pub add_at_equal : (p : ℕ) (xs new : List ℕ) (i a b : ℕ) → new ≡ add_a
 add_at_equal p xs new i a b e same = e ∙ ap (add_at (modulo p) xs i) same
 
 -- ---- gates
--- A gathering F: it adds, for each gate with its weight, an amount at one of the gate's places.
-pub record Gathers (p : ℕ) (F : List Gate → List ℕ → List ℕ → List ℕ) (place : Gate → ℕ) (amount : Gate → ℕ → ℕ) : Type 0 where
-  pub none : (ws table : List ℕ) → F [] ws table ≡ table
-  pub one : (g : Gate) (gs : List Gate) (w : ℕ) (ws table : List ℕ) → F (g ∷ gs) (w ∷ ws) table ≡ F gs ws (add_at (modulo p) table (place g) (amount g w))
-
--- F has passed i gates: the table held `before` at first
-pub record Passed (p : ℕ) (F : List Gate → List ℕ → List ℕ → List ℕ) (gates : List Gate) (ws before : List ℕ) (i : ℕ) (table : List ℕ) : Type 0 where
-  pub leads : F (drop i gates) (drop i ws) table ≡ F gates ws before
+-- The gates before place i were passed, which the choice was called for: whatever place and value it picks of each, the gates
+-- that are left add to the table what all of them add to what it held at first.
+pub record Passed (p n : ℕ) (calls : gate.Gate → ℕ × ℕ → Type 0) (share : Kind → ℕ → ℕ → ℕ) (gates : List Gate) (ws before : List ℕ) (i : ℕ) (table : List ℕ) : Type 0 where
+  pub leads : (place other : Gate → ℕ) → Picks n calls place other →
+      gathered (modulo p) place (λ g w. share g.kind w (other g)) (drop i gates) (drop i ws) table ≡
+      gathered (modulo p) place (λ g w. share g.kind w (other g)) gates ws before
   pub reduced : T (all_reduced (modulo p) table)
 
-pub passed_none : (p : ℕ) (F : List Gate → List ℕ → List ℕ → List ℕ) (gates : List Gate) (ws table : List ℕ) → T (all_reduced (modulo p) table) →
-    Passed p F gates ws table 0 table
-passed_none p F gates ws table t = record { leads = refl; reduced = t }
-
-pub passed_more : (p : ℕ) (F : List Gate → List ℕ → List ℕ → List ℕ) (place : Gate → ℕ) (amount : Gate → ℕ → ℕ) → Gathers p F place amount →
-    (gates : List Gate) (ws before : List ℕ) (i : ℕ) (table : List ℕ) → Passed p F gates ws before i table → i < length gates → i < length ws →
-    (g : Gate) → g ≡ get_or gates i no_gate → (new : List ℕ) → new ≡ add_at (modulo p) table (place g) (amount g (get_or ws i 0)) → T (all_reduced (modulo p) new) →
-    Passed p F gates ws before (i + 1) new
-passed_more p F place amount law gates ws before i table passed h k g e new f t =
+pub passed_more : (p n : ℕ) (calls : gate.Gate → ℕ × ℕ → Type 0) (share : Kind → ℕ → ℕ → ℕ) (gates : List Gate) (ws before : List ℕ) (i : ℕ) (table : List ℕ) →
+    Passed p n calls share gates ws before i table → i < length gates → i < length ws →
+    (read : gate.Gate) (r : ℕ × ℕ) → gate_meant read ≡ get_or gates i no_gate → Within n read → calls read r →
+    (new : List ℕ) → new ≡ add_at (modulo p) table r.0 (share (kind_meant read.kind) (get_or ws i 0) r.1) → T (all_reduced (modulo p) new) →
+    Passed p n calls share gates ws before (i + 1) new
+unfolding gathered
+passed_more p n calls share gates ws before i table passed h k read r e within call new f t =
+    let g = gate_meant read in
     let rest : List Gate = drop (i + 1) gates in
     let split : drop i gates ≡ g ∷ rest = drop_more gates i no_gate h ∙ ap (λ (x : Gate). x ∷ rest) (sym e) in
-    let step = ap₂ (λ x y. F x y table) split (drop_more ws i 0 k) ∙ law.one g rest (get_or ws i 0) (drop (i + 1) ws) table in
-    record { leads = ap (F rest (drop (i + 1) ws)) f ∙ sym step ∙ passed.leads; reduced = t }
+    record {
+      leads = λ place other picks.
+          let picked = picks read r within call in
+          let amount : Gate → ℕ → ℕ = λ x w. share x.kind w (other x) in
+          ap (gathered (modulo p) place amount rest (drop (i + 1) ws)) (f ∙ ap₂ (λ (a b : ℕ). add_at (modulo p) table a (share g.kind (get_or ws i 0) b)) picked.0 picked.1)
+          ∙ sym (ap₂ (λ x y. gathered (modulo p) place amount x y table) split (drop_more ws i 0 k)) ∙ passed.leads place other picks;
+      reduced = t;
+    }
 
-pub passed_all : (p : ℕ) (F : List Gate → List ℕ → List ℕ → List ℕ) (place : Gate → ℕ) (amount : Gate → ℕ → ℕ) → Gathers p F place amount →
-    (gates : List Gate) (ws before : List ℕ) (i : ℕ) (table : List ℕ) → Passed p F gates ws before i table → length gates ≤ i →
-    table ≡ F gates ws before
-passed_all p F place amount law gates ws before i table passed h =
-    sym (law.none (drop i ws) table) ∙ sym (ap (λ x. F x (drop i ws) table) (drop_all i gates h)) ∙ passed.leads
+pub passed_all : (p n : ℕ) (calls : gate.Gate → ℕ × ℕ → Type 0) (share : Kind → ℕ → ℕ → ℕ) (gates : List Gate) (ws before : List ℕ) (i : ℕ) (table : List ℕ) →
+    Passed p n calls share gates ws before i table → length gates ≤ i → (place other : Gate → ℕ) → Picks n calls place other →
+    table ≡ gathered (modulo p) place (λ g w. share g.kind w (other g)) gates ws before
+unfolding gathered
+passed_all p n calls share gates ws before i table passed h place other picks =
+    sym (ap (λ x. gathered (modulo p) place (λ g w. share g.kind w (other g)) x (drop i ws) table) (drop_all i gates h)) ∙ passed.leads place other picks
 
--- for x
-abbrev pub left_h : ℕ → List ℕ → List Gate → List ℕ → List ℕ → List ℕ
-left_h p v gs ws table = gather_h (modulo p) gs ws v table
+-- the two choices: for x and for y
+module _ (p : ℕ) where
+  abbrev N : Numbers ℕ
+  N = modulo p
 
-abbrev pub left_j : ℕ → List ℕ → List Gate → List ℕ → List ℕ → List ℕ
-left_j p v gs ws table = gather_j (modulo p) gs ws v table
+  pub left_h : (v : List ℕ) (gs : List Gate) (ws table : List ℕ) →
+      gathered N (λ g. g.left) (λ g w. to_product N g.kind w (get_or v g.right 0)) gs ws table ≡ gather_h N gs ws v table
+  unfolding gathered gather_h
+  left_h v [] ws table = refl
+  left_h v (g ∷ gs) [] table = refl
+  left_h v (g ∷ gs) (w ∷ ws) table = left_h v gs ws _
 
-pub gathers_left_h : (p : ℕ) (v : List ℕ) → Gathers p (left_h p v) (λ g. g.left) (λ g w. to_product (modulo p) g.kind w (get_or v g.right 0))
-unfolding gather_h
-gathers_left_h p v = record { none = λ ws table. refl; one = λ g gs w ws table. refl }
+  pub left_j : (v : List ℕ) (gs : List Gate) (ws table : List ℕ) →
+      gathered N (λ g. g.left) (λ g w. to_rest N g.kind w (get_or v g.right 0)) gs ws table ≡ gather_j N gs ws v table
+  unfolding gathered gather_j
+  left_j v [] ws table = refl
+  left_j v (g ∷ gs) [] table = refl
+  left_j v (g ∷ gs) (w ∷ ws) table = left_j v gs ws _
 
-pub gathers_left_j : (p : ℕ) (v : List ℕ) → Gathers p (left_j p v) (λ g. g.left) (λ g w. to_rest (modulo p) g.kind w (get_or v g.right 0))
-unfolding gather_j
-gathers_left_j p v = record { none = λ ws table. refl; one = λ g gs w ws table. refl }
+  pub right_h : (a : ℕ) (gs : List Gate) (ws table : List ℕ) → gathered N (λ g. g.right) (λ g w. to_product N g.kind w a) gs ws table ≡ gather_hy N gs ws a table
+  unfolding gathered gather_hy
+  right_h a [] ws table = refl
+  right_h a (g ∷ gs) [] table = refl
+  right_h a (g ∷ gs) (w ∷ ws) table = right_h a gs ws _
 
--- for y
-abbrev pub right_h : ℕ → ℕ → List Gate → List ℕ → List ℕ → List ℕ
-right_h p a gs ws table = gather_hy (modulo p) gs ws a table
-
-abbrev pub right_j : ℕ → ℕ → List Gate → List ℕ → List ℕ → List ℕ
-right_j p a gs ws table = gather_jy (modulo p) gs ws a table
-
-pub gathers_right_h : (p a : ℕ) → Gathers p (right_h p a) (λ g. g.right) (λ g w. to_product (modulo p) g.kind w a)
-unfolding gather_hy
-gathers_right_h p a = record { none = λ ws table. refl; one = λ g gs w ws table. refl }
-
-pub gathers_right_j : (p a : ℕ) → Gathers p (right_j p a) (λ g. g.right) (λ g w. to_rest (modulo p) g.kind w a)
-unfolding gather_jy
-gathers_right_j p a = record { none = λ ws table. refl; one = λ g gs w ws table. refl }
+  pub right_j : (a : ℕ) (gs : List Gate) (ws table : List ℕ) → gathered N (λ g. g.right) (λ g w. to_rest N g.kind w a) gs ws table ≡ gather_jy N gs ws a table
+  unfolding gathered gather_jy
+  right_j a [] ws table = refl
+  right_j a (g ∷ gs) [] table = refl
+  right_j a (g ∷ gs) (w ∷ ws) table = right_j a gs ws _
 
 -- ---- weights at x
 pub weights_at-length : (p : ℕ) (gs : List Gate) (ws ex : List ℕ) → length gs ≡ length ws → length (weights_at (modulo p) gs ws ex) ≡ length ws

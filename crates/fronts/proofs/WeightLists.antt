@@ -29,10 +29,7 @@ weights_from p size n ss ws e at =
     ext_get_or 0 ws (weights N size ss 0 n) (e ∙ sym (weights-length N size ss 0 n))
     (λ i h. at i (omega arith) ∙ ap (share_weight N size ss) (sym (zero-add i)) ∙ sym (weights_at N size ss 0 n i 0 (omega arith)))
 
--- a front that a call left, in the whole: what it is, and that it is reduced
-pub front_same : (p count : ℕ) (new rest : List ℕ) → length new ≡ count → take count (new ++ rest) ≡ new
-front_same p count new rest e = take_at new rest count e
-
+-- a front that a call left is reduced in the whole
 pub front_reduced : (p count : ℕ) (new rest : List ℕ) → length new ≡ count → T (all_reduced (modulo p) new) → T (all_reduced (modulo p) (take count (new ++ rest)))
 front_reduced p count new rest e t = subst (λ (l : List ℕ). T (all_reduced (modulo p) l)) (sym (take_at new rest count e)) t
 
@@ -41,10 +38,3 @@ pub zeros_reduced : (p : ℕ) → 0 < p → (n : ℕ) → T (all_reduced (modulo
 unfolding all_reduced
 zeros_reduced p h zero = tt
 zeros_reduced p h (suc n) = and_both (ltb 0 p) (all_reduced (modulo p) (replicate n 0)) (lt→ltb 0 p h) (zeros_reduced p h n)
-
--- a cleared front, cut where the checker has its end
-pub cleared : (n count : ℕ) (words : List ℕ) → n ≡ count → take count words ≡ replicate count 0 → take n words ≡ replicate count 0
-cleared n count words e is = ap (λ (k : ℕ). take k words) e ∙ is
-
-pub cleared_reduced : (p : ℕ) → 0 < p → (n count : ℕ) (words : List ℕ) → n ≡ count → take count words ≡ replicate count 0 → T (all_reduced (modulo p) (take n words))
-cleared_reduced p h n count words e is = subst (λ (l : List ℕ). T (all_reduced (modulo p) l)) (sym (cleared n count words e is)) (zeros_reduced p h count)

@@ -35,6 +35,12 @@ module _ {K : Type 0} (N : Numbers K) where
   to_rest sum w b = mul w b
   to_rest product w b = nat 0
 
+  -- each gate adds an amount, which its weight is given to, at one of its places
+  unfoldable pub gathered : (Gate → ℕ) → (Gate → K → K) → List Gate → List K → List K → List K
+  gathered place amount [] ws table = table
+  gathered place amount (g ∷ gs) [] table = table
+  gathered place amount (g ∷ gs) (w ∷ ws) table = gathered place amount gs ws (add_at table (place g) (amount g w))
+
   -- H and J for x: by the gates' left places, the other value being that of the right place
   unfoldable pub gather_h : List Gate → List K → List K → List K → List K
   gather_h [] ws v table = table

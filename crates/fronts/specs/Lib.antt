@@ -1,1 +1,2 @@
 pub mod Gathers
+pub mod Picks

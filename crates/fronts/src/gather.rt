@@ -1,12 +1,14 @@
 // The tables H and J of a phase, gathered from a layer's gates in one pass: the sum over the phase's corners is that of V H + J.
 // A gate of weight w and other value b stands for w (V + b) if it is a sum, for w b V if it is a product.
-ghost use Rattle.std.specs.Prelude.{◌≡◌, ◌^◌, ◌<◌, T, map, length};
+ghost use Rattle.std.specs.Prelude.{◌≡◌, ℕ, ◌^◌, ◌<◌, T, map, length};
 ghost use Rattle.arithmetic.specs.Numbers.{modulo, all_reduced};
 ghost use Rattle.circuits.specs.Views.{kind_meant, gates_seen, size_seen, places_below};
-ghost use Rattle.fronts.specs.Gathers.{add_at, to_product, to_rest, gather_h, gather_j, weights_at, gather_hy, gather_jy};
+ghost use Rattle.circuits.specs.Circuit as circuit;
+ghost use Rattle.fronts.specs.Gathers.{add_at, to_product, to_rest, gathered, gather_h, gather_j, weights_at, gather_hy, gather_jy};
+ghost use Rattle.fronts.specs.Picks.{Within, Picks};
 
 use arithmetic::modular::Modular;
-use circuits::{Kind, LayerView};
+use circuits::{Gate, Kind, LayerView};
 
 fn add_at<M: Modular>(table: &mut [u32], place: usize, number: u32)
     requires place { place < length table.old }
@@ -45,6 +47,32 @@ fn add_gate<M: Modular>(
     }
 }
 
+// Passes the gates of a layer: `pick` gives a gate's place in the tables, and the value at its other place.
+fn gather<M: Modular, F: Fn(Gate) -> (usize, u32)>(
+    layer: LayerView,
+    weights: &[u32],
+    pick: F,
+    h: &mut [u32],
+    j: &mut [u32],
+)
+    requires gates { length weights.now ≡ 2 ^ size_seen layer }
+    requires room { (length h.old ≡ 2 ^ places_below layer) × (length j.old ≡ 2 ^ places_below layer) }
+    requires given { T (all_reduced (modulo M.modulus) weights.now) }
+    requires reduced { (T (all_reduced (modulo M.modulus) h.old)) × (T (all_reduced (modulo M.modulus) j.old)) }
+    requires callable { (gate : _) → Within (2 ^ places_below layer) gate → F.pre pick gate }
+    requires picked { (gate : _) (r : _) → Within (2 ^ places_below layer) gate → F.post pick gate r → (r.0 < 2 ^ places_below layer) × (r.1 < M.modulus) }
+    ensures h { (place other : circuit.Gate → ℕ) → Picks (2 ^ places_below layer.entry) (F.post pick) place other → h.new ≡ gathered (modulo M.modulus) place (λ g w. to_product (modulo M.modulus) g.kind w (other g)) (gates_seen layer.entry) weights.now h.old }
+    ensures j { (place other : circuit.Gate → ℕ) → Picks (2 ^ places_below layer.entry) (F.post pick) place other → j.new ≡ gathered (modulo M.modulus) place (λ g w. to_rest (modulo M.modulus) g.kind w (other g)) (gates_seen layer.entry) weights.now j.old }
+    ensures h_reduced { T (all_reduced (modulo M.modulus) h.new) }
+    ensures j_reduced { T (all_reduced (modulo M.modulus) j.new) }
+{
+    for (i, weight) in weights.iter().enumerate() {
+        let gate = layer.gate(i);
+        let (place, other) = pick(gate);
+        add_gate::<M>(gate.kind, place, *weight, other, h, j);
+    }
+}
+
 // For x: by the gates' left places. The other value is that of the right place.
 pub fn gather_left<M: Modular>(
     layer: LayerView,
@@ -63,24 +91,7 @@ pub fn gather_left<M: Modular>(
     ensures h_reduced { T (all_reduced (modulo M.modulus) h.new) }
     ensures j_reduced { T (all_reduced (modulo M.modulus) j.new) }
 {
-    for i in 0..weights.len() {
-        let gate = layer.gate(i);
-        add_gate::<M>(gate.kind, gate.left, weights[i], values[gate.right], h, j);
-    }
-}
-
-// Takes the weights at x: each times eq of the gate's left place at x.
-pub fn weigh_left<M: Modular>(layer: LayerView, weights: &mut [u32], eq_at_x: &[u32])
-    requires gates { length weights.old ≡ 2 ^ size_seen layer }
-    requires places { length eq_at_x.now ≡ 2 ^ places_below layer }
-    requires given { (T (all_reduced (modulo M.modulus) weights.old)) × (T (all_reduced (modulo M.modulus) eq_at_x.now)) }
-    ensures weights { weights.new ≡ weights_at (modulo M.modulus) (gates_seen layer.entry) weights.old eq_at_x.now }
-    ensures reduced { T (all_reduced (modulo M.modulus) weights.new) }
-{
-    for i in 0..weights.len() {
-        let gate = layer.gate(i);
-        weights[i] = M::mul(weights[i], eq_at_x[gate.left]);
-    }
+    gather::<M, _>(layer, weights, |gate| (gate.left, values[gate.right]), h, j);
 }
 
 // For y, x being fixed: by the gates' right places, with weights taken at x. The other value is that at x.
@@ -100,9 +111,20 @@ pub fn gather_right<M: Modular>(
     ensures h_reduced { T (all_reduced (modulo M.modulus) h.new) }
     ensures j_reduced { T (all_reduced (modulo M.modulus) j.new) }
 {
-    for i in 0..weights.len() {
+    gather::<M, _>(layer, weights, |gate| (gate.right, value_at_x), h, j);
+}
+
+// Takes the weights at x: each times eq of the gate's left place at x.
+pub fn weigh_left<M: Modular>(layer: LayerView, weights: &mut [u32], eq_at_x: &[u32])
+    requires gates { length weights.old ≡ 2 ^ size_seen layer }
+    requires places { length eq_at_x.now ≡ 2 ^ places_below layer }
+    requires given { (T (all_reduced (modulo M.modulus) weights.old)) × (T (all_reduced (modulo M.modulus) eq_at_x.now)) }
+    ensures weights { weights.new ≡ weights_at (modulo M.modulus) (gates_seen layer.entry) weights.old eq_at_x.now }
+    ensures reduced { T (all_reduced (modulo M.modulus) weights.new) }
+{
+    for (i, weight) in weights.iter_mut().enumerate() {
         let gate = layer.gate(i);
-        add_gate::<M>(gate.kind, gate.right, weights[i], value_at_x, h, j);
+        *weight = M::mul(*weight, eq_at_x[gate.left]);
     }
 }
 

@@ -3,8 +3,8 @@ pub mod PhaseC
 pub mod Places
 pub mod PhaseX
 pub mod PhaseY
+pub mod Respond
 pub mod TableSteps
 pub mod Starting
 pub mod StartsRead
 pub mod TurnSteps
-pub mod Respond

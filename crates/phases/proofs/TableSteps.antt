@@ -4,16 +4,13 @@ use Rattle.std.proofs.Common.{◌≡◌, ℕ, suc, ◌*◌, ◌^◌, ◌<◌, T,
 use Rattle.arithmetic.specs.Numbers.{Numbers, modulo, all_reduced}
 use Rattle.arithmetic.proofs.Modulo.{ring_modulo}
 use Rattle.tables.specs.Multilinear.{fix_first, mle, eq_poly, sum_corners}
-use Rattle.tables.proofs.Corners.{sum_corners_eq}
 use Rattle.circuits.specs.Circuit.{Layer}
 use Rattle.argument.specs.Claims.{Claim}
 use Rattle.argument.specs.Sumcheck.{Prover, four_values, respond}
 use Rattle.rounds.specs.Phases.{copy_sum, product_sum}
 use Rattle.phases.specs.Standing.{term_of, CopyTables, ProductTables, LeftTables, RightTables, Fixed}
 use Rattle.phases.proofs.PhaseC.{phase_c}
-
-four_values_same : {K : Type 0} (N : Numbers K) (g h : K → K) → ((t : K) → g t ≡ h t) → four_values N g ≡ four_values N h
-four_values_same N g h e = rw (e (N.nat 0), e (N.nat 1), e (N.nat 2), e (N.nat 3)) refl
+use Rattle.phases.proofs.Respond.{respond_same}
 
 -- one coin more, before what is left
 pub one_more : (c : List ℕ) (r : ℕ) (z : List ℕ) → (c ++ (r ∷ [])) ++ z ≡ c ++ (r ∷ z)
@@ -32,14 +29,15 @@ copies_said p several l m k X c n v w h tables next =
     let R = ring_modulo p several in
     let e : List ℕ = take (2 ^ suc n) h in
     let u : List ℕ = take (2 ^ suc n * 2 ^ m) v in
+    let F : List ℕ → ℕ = copy_sum N m l.gates (take (2 ^ l.size) w) e u in
     let G : List ℕ → ℕ = λ z. sum_corners N m (λ x. sum_corners N m (λ y. term_of p l m k X (c ++ z) x y)) in
-    four_values_same N (λ t. sum_corners N n (λ z. copy_sum N m l.gates (take (2 ^ l.size) w) e u (t ∷ z))) (λ t. sum_corners N n (λ z. G (t ∷ z)))
-    (λ t. sum_corners_eq R n (λ z. copy_sum N m l.gates (take (2 ^ l.size) w) e u (t ∷ z)) (λ z. G (t ∷ z))
+    respond_same R (suc n) F G next next
     (λ z long.
-    ap (λ (ws : List ℕ). copy_sum N m l.gates ws e u (t ∷ z)) tables.weights
+    ap (λ (ws : List ℕ). copy_sum N m l.gates ws e u z) tables.weights
     ∙ sym
-    (phase_c R l m k e u X (t ∷ z) (c ++ (t ∷ z)) (tables.eq (t ∷ z) (ap suc long))
-    (λ rest. tables.values ((t ∷ z) ++ rest) ∙ ap (mle N X) (sym (append_assoc c (t ∷ z) rest))))))
+    (phase_c R l m k e u X z (c ++ z) (tables.eq z long)
+    (λ rest. tables.values (z ++ rest) ∙ ap (mle N X) (sym (append_assoc c z rest)))))
+    (λ z long coins. refl) []
 
 pub copies_heard : (p : ℕ) (l : Layer) (m : ℕ) (k : Claim ℕ) (X c : List ℕ) (n : ℕ) (v w h : List ℕ) → CopyTables p l m k X c (suc n) v w h →
     (r : ℕ) (v' h' : List ℕ) →
@@ -65,11 +63,8 @@ pub products_said : (p : ℕ) → 1 < p → (F G : List ℕ → ℕ) (n : ℕ) (
     respond (modulo p) (suc n) G next []
 unfolding respond
 products_said p several F G n v h j tables next =
-    let N = modulo p in
-    let R = ring_modulo p several in
-    let P : List ℕ → ℕ = product_sum N (take (2 ^ suc n) v) (take (2 ^ suc n) h) (take (2 ^ suc n) j) in
-    four_values_same N (λ t. sum_corners N n (λ z. P (t ∷ z))) (λ t. sum_corners N n (λ z. G (t ∷ z)))
-    (λ t. sum_corners_eq R n (λ z. P (t ∷ z)) (λ z. G (t ∷ z)) (λ z long. tables.total (t ∷ z) (ap suc long)))
+    let P : List ℕ → ℕ = product_sum (modulo p) (take (2 ^ suc n) v) (take (2 ^ suc n) h) (take (2 ^ suc n) j) in
+    respond_same (ring_modulo p several) (suc n) P G next next tables.total (λ z long coins. refl) []
 
 products_heard : (p : ℕ) (F G F' G' : List ℕ → ℕ) (n : ℕ) (v h j : List ℕ) → ProductTables p F G (suc n) v h j →
     (r : ℕ) (v' h' j' : List ℕ) → Fixed p n r v v' → Fixed p n r h h' → Fixed p n r j j' →

@@ -78,17 +78,17 @@ copies_turn p l m k X c n all count r v w h v' h' some ea ec tables ev rv eh rh 
     fh.front fh.reduced
 
 -- ---- answers
-pub products_answer : (p : ℕ) → 1 < p → (F G : List ℕ → ℕ) (n count end : ℕ) (v h j : List ℕ) → 0 < n → count ≡ 2 ^ n → end ≡ count → ProductTables p F G n v h j →
+pub products_answer : (p : ℕ) → 1 < p → (F G : List ℕ → ℕ) (n count : ℕ) (v h j : List ℕ) → 0 < n → count ≡ 2 ^ n → ProductTables p F G n v h j →
     (r : List ℕ) →
-    ((i : ℕ) → length (take end v) ≡ 2 ^ suc i →
-    r ≡ four_values (modulo p) (λ t. sum_corners (modulo p) i (λ z. product_sum (modulo p) (take end v) (take end h) (take end j) (t ∷ z)))) →
-    length (take end v) ≡ count → (next : List ℕ → Prover ℕ) → r ≡ respond (modulo p) n G next []
-products_answer p several F G n count end v h j some ec ee tables r is long next =
+    ((i : ℕ) → length (take count v) ≡ 2 ^ suc i →
+    r ≡ four_values (modulo p) (λ t. sum_corners (modulo p) i (λ z. product_sum (modulo p) (take count v) (take count h) (take count j) (t ∷ z)))) →
+    length (take count v) ≡ count → (next : List ℕ → Prover ℕ) → r ≡ respond (modulo p) n G next []
+products_answer p several F G n count v h j some ec tables r is long next =
     let less = one_less n some in
     let N = modulo p in
-    let same : end ≡ 2 ^ suc (n - 1) = ee ∙ ec ∙ ap (λ (i : ℕ). 2 ^ i) less in
+    let same : count ≡ 2 ^ suc (n - 1) = ec ∙ ap (λ (i : ℕ). 2 ^ i) less in
     let before : ProductTables p F G (suc (n - 1)) v h j = subst (λ (i : ℕ). ProductTables p F G i v h j) less tables in
-    is (n - 1) (long ∙ ec ∙ ap (λ (i : ℕ). 2 ^ i) less)
+    is (n - 1) (long ∙ same)
     ∙ ap (λ (e : ℕ). four_values N (λ t. sum_corners N (n - 1) (λ z. product_sum N (take e v) (take e h) (take e j) (t ∷ z)))) same
     ∙ products_said p several F G (n - 1) v h j before next
     ∙ ap (λ (i : ℕ). respond N i G next []) (sym less)

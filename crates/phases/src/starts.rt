@@ -80,16 +80,16 @@ impl<'t> Tables<'t> {
         let below = power(layer.size_below());
         let value = self.v[0];
         self.v[0..below].copy_from_slice(&self.w[0..below]);
-        let weights = &mut self.w[0..gates];
+        let w = &mut self.w[0..gates];
         let h = &mut self.h[0..below];
         let j = &mut self.j[0..below];
-        weigh::<M>(shares, weights);
-        scale::<M>(weights, factor);
+        weigh::<M>(shares, w);
+        scale::<M>(w, factor);
         eq_table::<M>(x, h);
-        weigh_left::<M>(layer, weights, h);
+        weigh_left::<M>(layer, w, h);
         h.fill(0);
         j.fill(0);
-        gather_right::<M>(layer, weights, value, h, j);
+        gather_right::<M>(layer, w, value, h, j);
         value
     }
 }

@@ -8,9 +8,9 @@ ghost use Rattle.circuits.specs.Views.{layer_seen, size_seen, places_below};
 ghost use Rattle.tables.specs.Multilinear.{sum_corners};
 ghost use Rattle.phases.specs.Standing.{CopyTables, ProductTables, Fixed, Fronts, term_of};
 
+use crate::quarters::Tables;
 use arithmetic::modular::Modular;
 use circuits::{LayerView, power};
-use crate::quarters::Tables;
 use rounds::copies::sum_copies;
 use rounds::rounds::sum_round;
 use tables::halving::fix_first;
@@ -25,17 +25,10 @@ impl<'t> Tables<'t> {
         ensures answer { (k : Claim ℕ) (X c : List ℕ) → CopyTables M.modulus (layer_seen layer.entry) (places_below layer.entry) k X c left self.now.v.now self.now.w.now self.now.h.now → (next : List ℕ → Prover ℕ) → result ≡ respond (modulo M.modulus) left (λ z. sum_corners (modulo M.modulus) (places_below layer.entry) (λ x. sum_corners (modulo M.modulus) (places_below layer.entry) (λ y. term_of M.modulus (layer_seen layer.entry) (places_below layer.entry) k X (c ++ z) x y))) next [] }
         ensures reduced { T (all_reduced (modulo M.modulus) result) }
     {
-        let gates = power(layer.size());
-        let below = power(layer.size_below());
-        let count = power(left);
-        let all = power(left + layer.size_below());
-        sum_copies::<M>(
-            layer,
-            below,
-            &self.w[0..gates],
-            &self.h[0..count],
-            &self.v[0..all],
-        )
+        let weights = &self.w[0..power(layer.size())];
+        let eq = &self.h[0..power(left)];
+        let values = &self.v[0..power(left + layer.size_below())];
+        sum_copies::<M>(layer, power(layer.size_below()), weights, eq, values)
     }
 
     // Fixes the first of `left` copies' variables in the tables of values and of eq.

@@ -1,5 +1,5 @@
 -- Each of the three tables is halved.
-use Rattle.std.proofs.Common.{◌≡◌, ℕ, ◌-◌, ◌^◌, ◌<◌, sym, ◌∙◌, arith}
+use Rattle.std.proofs.Common.{◌-◌, ◌<◌, sym, ◌∙◌, arith}
 use native.Mathlib.Nat.{sub-zero}
 use Rattle.phases.proofs.StartsRead.{reduced_end}
 use Rattle.phases.proofs.TurnSteps.{fixed_by}

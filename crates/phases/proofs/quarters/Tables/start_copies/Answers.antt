@@ -1,6 +1,5 @@
 -- The calls leave what the sum over the copies is about.
-use Rattle.std.proofs.Common.{◌≡◌, ℕ, ◌-◌, ◌*◌, ◌^◌, ◌<◌, ◌≤◌, T, List, length, take, sym, ap, ◌∙◌, arith}
-use native.Mathlib.Nat.{sub-zero}
+use Rattle.std.proofs.Common.{◌≡◌, ℕ, ◌*◌, ◌^◌, ◌<◌, ◌≤◌, T, List, length, take, sym, ap, ◌∙◌, arith}
 use Rattle.arithmetic.specs.Numbers.{modulo, all_reduced}
 use Rattle.argument.specs.Claims.{Share}
 use Rattle.circuits.proofs.Parts.{layers_parts}

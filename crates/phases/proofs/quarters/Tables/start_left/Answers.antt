@@ -4,7 +4,6 @@ use native.Mathlib.Nat.{sub-zero}
 use Rattle.std.proofs.lemmas.List.{take-append-drop, length-take-le}
 use Rattle.circuits.proofs.Parts.{layer_parts}
 use Rattle.circuits.specs.Views.{layer_seen, gates_seen, size_seen, places_below}
-
 use Rattle.rounds.proofs.RowSteps.{gates_read}
 use Rattle.phases.proofs.StartsRead.{filled_reduced, left_read}
 use Rattle.phases.proofs.quarters.Tables.start_left.Goals as goal

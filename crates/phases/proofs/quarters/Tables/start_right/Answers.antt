@@ -1,7 +1,6 @@
 -- The calls leave what the sum over y is about.
 use Rattle.std.proofs.Common.{◌≡◌, ℕ, ◌-◌, ◌^◌, ◌<◌, List, length, replicate, sym, refl, ap, ◌∙◌, arith}
 use native.Mathlib.Nat.{sub-zero}
-use Rattle.std.proofs.lemmas.List.{length-take-le}
 use Rattle.arithmetic.specs.Numbers.{modulo}
 use Rattle.argument.specs.Claims.{Share}
 use Rattle.circuits.proofs.Parts.{layer_parts}
