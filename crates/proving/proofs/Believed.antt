@@ -1,9 +1,12 @@
 -- What the honest prover says along the coins, written down, is believed of the right outputs.
 -- The written prover answers as the honest one does, and nothing but answers counts.
-use Rattle.std.proofs.Common.{◌≡◌, ℕ, ◌+◌, ◌-◌, ◌^◌, ◌<◌, ◌≤◌, Bool, true, cond, not, ◌&&◌, eqb, List, [], ◌++◌, length, get_or, take, drop, sym, refl, ap, ◌∙◌, ap₂, le_of_eq, arith, length-drop, take-add, pow-add}
+use Rattle.std.proofs.Common.{◌≡◌, ℕ, ◌+◌, ◌-◌, ◌^◌, ◌<◌, ◌≤◌, Bool, true, cond, not, ◌&&◌, eqb, List, [], ◌++◌, length, get_or, take, drop, Ok, Err, Result, MatchResult, sym, refl, ap, ◌∙◌, ap₂, le_of_eq, arith, length-drop, take-add, pow-add}
 use Rattle.std.proofs.lemmas.List.{length-take-le, take_at, drop_at}
 use Rattle.std.proofs.lemmas.Bool.{and_from, eq-eqb}
 use Rattle.arithmetic.specs.Numbers.{modulo, all_reduced}
+use Rattle.refusals.specs.Refusals.{number_of, answer_of}
+use Rattle.refusals.specs.declared.Refusal.{Refusal}
+use Rattle.refusals.specs.declared.Refusal.TheVariants.{NoCircuit, WrongCount, NotReduced, NotBelieved, UnknownForm}
 use Rattle.arithmetic.proofs.Truth.{path_of_T, T_of_path}
 use Rattle.circuits.specs.Circuit.{Circuit, lawful, output_size, outputs}
 use Rattle.circuits.specs.Words.{modulus, circuit_of, is_circuit}
@@ -26,9 +29,6 @@ use Rattle.proving.proofs.Written.{written_honest}
 -- tests that all pass
 all_pass : (A B C D : Bool) → A ≡ true → B ≡ true → C ≡ true → D ≡ true → ◌≡◌ {A = ℕ} (cond (not A) 1 (cond (not B) 2 (cond (not C) 3 (cond D 0 4)))) 0
 all_pass A B C D a b c d = rw (a, b, c, d) refl
-
-three_pass : (A B C : Bool) → A ≡ true → B ≡ true → C ≡ true → ◌≡◌ {A = ℕ} (cond (not A) 1 (cond (not B) 2 (cond (not C) 3 0))) 0
-three_pass A B C a b c = rw (a, b, c) refl
 
 module _ (cs vs coins room : List ℕ) (work : ℕ) (ready : Ready cs vs coins (length room) work) (answered : Answered cs vs coins room) where
   abbrev c : Circuit
@@ -103,15 +103,14 @@ module _ (cs vs coins room : List ℕ) (work : ℕ) (ready : Ready cs vs coins (
       (and_from (E os) (E room && E coins) outputs_reduced (and_from (E room) (E coins) (path_of_T (E room) answered.room_reduced) ready.coins_reduced)))
       accepted
 
-pub verdict_zero : (cs vs coins : List ℕ) (room work : ℕ) → Ready cs vs coins room work → prove_verdict cs vs coins room work ≡ 0
-verdict_zero cs vs coins room work ready =
-    let c = circuit_of cs in
-    let A : Bool = eqb (length vs) (2 ^ (c.copies + c.inputs)) in
-    let B : Bool = eqb room (answer_words c) in
-    let C : Bool = eqb (length coins) (coins_of c) in
-    let D : Bool = eqb work (2 ^ 18) in
-    let E : List ℕ → Bool = all_reduced (modulo modulus) in
-    three_pass (is_circuit cs) (A && (B && (C && D))) (E vs && E coins) ready.circuit
-    (and_from A (B && (C && D)) (eq-eqb (length vs) _ ready.inputs_many)
-    (and_from B (C && D) (eq-eqb room _ ready.room_many) (and_from C D (eq-eqb (length coins) _ ready.coins_many) (eq-eqb work _ ready.work_many))))
-    (and_from (E vs) (E coins) ready.inputs_reduced ready.coins_reduced)
+-- a call that answers 0 has done its work
+never_zero : (e : Refusal) → number_of e ≡ 0 → ⊥
+never_zero NoCircuit is = absurd (omega arith)
+never_zero WrongCount is = absurd (omega arith)
+never_zero NotReduced is = absurd (omega arith)
+never_zero NotBelieved is = absurd (omega arith)
+never_zero UnknownForm is = absurd (omega arith)
+
+pub done_at_zero : {X A : Type 0} (B : Refusal → Type 0) (r : Result X Refusal) → MatchResult r (λ _. A) B → answer_of r ≡ 0 → A
+done_at_zero B (Ok x) done is = done
+done_at_zero B (Err e) refused is = absurd (never_zero e is)

@@ -11,7 +11,7 @@ use Rattle.circuits.specs.Circuit.{Layer}
 use Rattle.circuits.specs.Views.{layers_seen, inputs_below}
 use Rattle.circuits.specs.Words.{modulus}
 use Rattle.tables.proofs.ReducedLists.{reduced_append}
-use Rattle.prover.specs.Provers.{Heard, speaks, coins_left, words_left, answer_length, copies_of, variables_of}
+use Rattle.prover.specs.Provers.{Heard, speaks, coins_left, words_left, answer_length, copies_of, variables_of, history}
 use Rattle.prover.specs.declared.prover.HonestProver.{HonestProver}
 
 along_more : (m : ℕ) (f : Prover ℕ) (n : ℕ) (coins : List ℕ) → answers_along (m + 1) f n coins ≡ answers_along m f n coins ++ f (take (n + m) coins)
@@ -78,10 +78,10 @@ no_words copies inputs [] e = refl
 no_words copies inputs (l ∷ ls) e = absurd (omega arith)
 
 -- where one coin is left, so is one answer
-pub last_words : (t : HonestProver) → coins_left t ≡ 1 → t.drawn ≤ variables_of t → words_left t ≡ answer_length t
-last_words t one within =
-    let done : t.drawn ≡ variables_of t = omega arith in
+pub last_words : (t : HonestProver) → coins_left t ≡ 1 → words_left t ≡ answer_length t
+last_words t one =
+    let done : length (history t) ≡ variables_of t = omega (arith, t.within) in
     let none : layer_coins (copies_of t) (layers_seen t.rest) (inputs_below t.rest) ≡ 0 = omega arith in
     let words = no_words (copies_of t) (inputs_below t.rest) (layers_seen t.rest) none in
-    let two : answer_length t ≡ 2 = ap (λ (b : Bool). cond b 4 2) (le-ltb t.drawn (variables_of t) (omega arith)) in
+    let two : answer_length t ≡ 2 = ap (λ (b : Bool). cond b 4 2) (le-ltb (length (history t)) (variables_of t) (omega arith)) in
     omega arith

@@ -10,6 +10,7 @@ ghost use Rattle.circuits.specs.Words.{modulus as field, circuit_of, run_verdict
 
 use crate::proving::try_prove;
 use evaluation::run as work_circuit_out;
+use refusals::answer;
 
 pub trait House {
     // What an honest house answers, from the coins so far.
@@ -52,9 +53,6 @@ impl House for HonestHouse {
         room: &mut [u32],
         work: &mut [u32],
     ) -> u32 {
-        match try_prove(circuit, inputs, coins, room, work) {
-            Ok(()) => 0,
-            Err(refusal) => refusal.number(),
-        }
+        answer(try_prove(circuit, inputs, coins, room, work))
     }
 }

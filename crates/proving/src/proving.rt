@@ -1,4 +1,4 @@
-// Proving for given coins: all is checked, then the prover speaks in the four quarters of the work, which is cleared.
+// Proving for given coins: all is checked, then the prover speaks in four tables over the work, which is cleared.
 // The prover takes one coin after the other, so that no answer depends on a later one.
 ghost use Rattle.std.specs.Prelude.{◌≡◌, ◌+◌, ◌^◌, ◌&&◌, length, replicate, MatchResult, ◌==◌};
 ghost use Rattle.argument.specs.Argument.{coins_of};
@@ -10,18 +10,13 @@ ghost use Rattle.proving.specs.Proves.{Ready, Answered};
 use crate::speaking::answer_all;
 use arithmetic::mersenne::Mersenne31;
 use circuits::{CircuitView, check_circuit, check_reduced};
-use fronts::fronts::clear;
 use judging::checks::{check_lengths, first_coins};
-use prover::hearing::begin;
-use prover::opening::open;
+use phases::quarters::Tables;
+use prover::prover::HonestProver;
 use refusals::Refusal;
 
-// so many words are lent to work in: four quarters
+// so many words are lent to work in: four tables
 const WORK: usize = 262144;
-
-const HALF: usize = 131072;
-
-const QUARTER: usize = 65536;
 
 fn check_rooms(
     circuit: CircuitView,
@@ -54,7 +49,7 @@ fn check_all(
     check_reduced::<Mersenne31>(coins)
 }
 
-// In the four quarters.
+// In four tables over the work.
 fn speak<'a>(
     circuit: CircuitView<'a>,
     inputs: &'a [u32],
@@ -65,15 +60,17 @@ fn speak<'a>(
     requires { Ready (words_seen circuit) inputs.now coins.now (length room.old) (length work.old) }
     ensures { Answered (words_seen circuit.entry) inputs.now coins.now room.new }
 {
-    let (front, back) = work.split_at_mut(HALF);
-    let (v, w) = front.split_at_mut(QUARTER);
-    let (h, j) = back.split_at_mut(QUARTER);
-    let first = first_coins(circuit);
-    let prover = begin(open(circuit, inputs, coins), v, w, h, j);
-    answer_all(prover, &coins[first..coins.len()], room, v, w, h, j);
+    let mut tables = Tables::over(work);
+    let prover = HonestProver::open(circuit, inputs, coins, &mut tables);
+    answer_all(
+        prover,
+        &coins[first_coins(circuit)..],
+        room,
+        &mut tables,
+    );
 }
 
-// The work is cleared whole, since nothing is known of it once its quarters were lent.
+// The work is cleared whole, since nothing is known of it once its tables were lent.
 pub fn try_prove(
     circuit: &[u32],
     inputs: &[u32],
@@ -85,6 +82,6 @@ pub fn try_prove(
 {
     check_all(circuit, inputs, coins, room.len(), work.len())?;
     speak(CircuitView::new(circuit), inputs, coins, room, work);
-    clear(work);
+    work.fill(0);
     Ok(())
 }

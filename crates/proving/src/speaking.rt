@@ -4,52 +4,44 @@ ghost use Rattle.std.specs.Prelude.{◌≡◌, ◌+◌, ◌≤◌, T, ◌++◌, 
 ghost use Rattle.arithmetic.specs.Numbers.{modulo, all_reduced};
 ghost use Rattle.argument.specs.Transcript.{answers_along};
 ghost use Rattle.circuits.specs.Words.{modulus};
-ghost use Rattle.prover.specs.Answers.{numbers_of};
+ghost use Rattle.claims.specs.Messages.{numbers_of};
 ghost use Rattle.prover.specs.Provers.{Stands, speaks, coins_left, words_left};
 
-use prover::answer::Answer;
-use prover::hearing::hear;
+use claims::message::Message;
+use phases::quarters::Tables;
 use prover::prover::HonestProver;
-use prover::saying::say;
 
-// Writes an answer at a place of the room, and gives the place after it.
-fn write(answer: Answer, room: &mut [u32], at: usize) -> usize
-    requires { at + length (numbers_of answer) ≤ length room.old }
-    ensures place { result ≡ at + length (numbers_of answer) }
-    ensures words { take result room.new ≡ take at room.old ++ numbers_of answer }
+// Writes a message at a place of the room, and gives the place after it.
+fn write(message: Message, room: &mut [u32], at: usize) -> usize
+    requires { at + length (numbers_of message) ≤ length room.old }
+    ensures place { result ≡ at + length (numbers_of message) }
+    ensures words { take result room.new ≡ take at room.old ++ numbers_of message }
 {
-    match answer {
-        Answer::Round(numbers) => {
-            room[at..at + 4].copy_from_slice(&numbers);
-            at + 4
-        }
-        Answer::Values(numbers) => {
-            room[at..at + 2].copy_from_slice(&numbers);
-            at + 2
-        }
-    }
+    let numbers = message.as_slice();
+    let end = at + numbers.len();
+    room[at..end].copy_from_slice(numbers);
+    end
 }
 
-pub fn answer_all<'a>(
-    prover: HonestProver<'a>,
+pub fn answer_all(
+    mut prover: HonestProver,
     coins: &[u32],
     room: &mut [u32],
-    v: &mut [u32],
-    w: &mut [u32],
-    h: &mut [u32],
-    j: &mut [u32],
+    tables: &mut Tables,
 )
-    requires stands { Stands 0 0 prover v.old w.old h.old j.old }
+    requires stands { Stands 0 0 prover tables.old }
     requires counts { (length coins.now ≡ coins_left prover) × (length room.old ≡ words_left prover) }
     requires coins { T (all_reduced (modulo modulus) coins.now) }
     ensures room { room.new ≡ answers_along (length coins.now) (speaks prover.entry) 0 coins.now }
     ensures reduced { T (all_reduced (modulo modulus) room.new) }
 {
-    let mut current = prover;
+    let Some((_, before)) = coins.split_last() else {
+        return;
+    };
     let mut at = 0;
-    for i in 0..coins.len() - 1 {
-        at = write(say(current, v, w, h, j), room, at);
-        current = hear(current, coins[i], v, w, h, j);
+    for coin in before {
+        at = write(prover.say(tables), room, at);
+        prover.hear(*coin, tables);
     }
-    write(say(current, v, w, h, j), room, at);
+    write(prover.say(tables), room, at);
 }

@@ -3,7 +3,5 @@ use Rattle.prover.specs.Provers.{Stands}
 use Rattle.proving.proofs.SpeakSteps.{Spoken}
 use Rattle.proving.proofs.speaking.answer_all.Given as goal
 
-abbrev pub invariant-loop-i : goal.invariant-loop-i
-invariant-loop-i l =
-    Stands 0 0 l.current l.v l.w l.h l.j
-    × Spoken l.prover l.coins l.i l.current l.room l.at
+abbrev pub invariant-loop-coin : goal.invariant-loop-coin
+invariant-loop-coin l = Stands 0 0 l.prover l.tables × Spoken l.fn.prover l.coins l.coin-index l.prover l.room l.at
