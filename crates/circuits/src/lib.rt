@@ -12,7 +12,7 @@ mod view;
 
 pub use checks::{check_counts, check_reduced};
 pub use examples::examples_stand;
-pub use gate::{Gate, Kind};
+pub use gate::{Gate, Kind, UnknownKind};
 pub use limits::MOST_PLACES;
 pub use shape::power;
 pub use view::{CircuitView, Gates, LayerView, LayersView, check_circuit};

@@ -5,6 +5,7 @@
 mod cases;
 
 use cases::{CASES, Case};
+use circuits::MOST_PLACES;
 use evaluation::run;
 use std::io;
 
@@ -38,12 +39,12 @@ fn too_deep(rt: &HostRuntime) -> io::Result<()> {
 
 fn wide(rt: &HostRuntime) -> io::Result<()> {
     let circuit = [16, 0, 1, 0, 0, 0, 0];
-    let mut inputs = [1; 65536];
-    inputs[65535] = 4;
-    let mut room = [7; 65536];
+    let mut inputs = [1; MOST_PLACES];
+    inputs[MOST_PLACES - 1] = 4;
+    let mut room = [7; MOST_PLACES];
     let answer = run(&circuit, &inputs, &mut room);
     let first = room[0];
-    let last = room[65535];
+    let last = room[MOST_PLACES - 1];
     println!(rt; "16 bits of copies: {answer}, from {first} to {last}")
 }
 
