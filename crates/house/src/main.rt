@@ -13,25 +13,21 @@ use arithmetic::mersenne::Mersenne31;
 use circuits::check_reduced;
 use programs::answering::is_last;
 use programs::given::{check_given, open_prover};
-use programs::held::first_coins;
+use programs::held::{MOST_FIRST_COINS, first_coins};
 use programs::number::coin_heard;
 use prover::answer::Answer;
 use prover::hearing::hear;
 use prover::prover::HonestProver;
 use prover::saying::say;
 use refusals::Refusal;
-use std::env;
 use std::process::ExitCode;
-use streams::failure;
-use streams::failure::{Failure, refused};
+use streams::arguments::arguments;
+use streams::failure::{Failure, exit_code};
 use streams::files::read_file;
 use streams::lines::LinesIn;
 use texts::line::Line;
 
 const USAGE: &str = "house CIRCUIT INPUTS";
-
-// no circuit has more first coins
-const MOST_FIRST_COINS: usize = 16;
 
 // words in each of the four tables that the prover works in
 const TABLE: usize = 65536;
@@ -40,10 +36,8 @@ const TABLE: usize = 65536;
 fn next_coin(rt: &HostRuntime, judge: &mut LinesIn) -> Result<u32, Failure>
     ensures { IfOk result (λ coin. coin < modulus) }
 {
-    match judge.next(rt.alloc())? {
-        Some(line) => Ok(coin_heard(line.as_slice())?),
-        None => Err(refused(Refusal::WrongCount)),
-    }
+    let line = judge.next(rt.alloc())?.ok_or(Refusal::WrongCount)?;
+    Ok(coin_heard(line.as_slice())?)
 }
 
 fn hear_first(rt: &HostRuntime, judge: &mut LinesIn, coins: &mut [u32]) -> Result<(), Failure> {
@@ -134,24 +128,12 @@ fn house<'a>(rt: &HostRuntime, circuit: &'a [u32], inputs: &'a [u32]) -> Result<
 }
 
 fn work(rt: &HostRuntime) -> Result<(), Failure> {
-    let mut args = env::args(rt)?;
-    let (_, Some(circuit), Some(inputs), None) = (
-        args.next(),
-        args.next(),
-        args.next(),
-        args.next(),
-    ) else {
-        return Err(Failure::Usage);
-    };
+    let [circuit, inputs] = arguments::<2>(rt)?;
     let circuit = read_file(rt, circuit.as_str())?;
     let inputs = read_file(rt, inputs.as_str())?;
     house(rt, circuit.as_slice(), inputs.as_slice())
 }
 
-// What a failure has to say is said by then: it is not printed again.
 fn main(rt: HostRuntime) -> ExitCode {
-    match failure::ended(&rt, USAGE, work(&rt)) {
-        Ok(()) => ExitCode::SUCCESS,
-        Err(_) => ExitCode::FAILURE,
-    }
+    exit_code(&rt, USAGE, work(&rt))
 }

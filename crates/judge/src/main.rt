@@ -11,12 +11,10 @@ ghost use Rattle.programs.specs.Held.{Held};
 use arithmetic::mersenne::Mersenne31;
 use circuits::check_reduced;
 use programs::hearing::hear;
-use programs::held::{check_held, first_coins, open_verifier};
-use programs::verdict::VerdictLine;
-use std::env;
+use programs::held::{MOST_FIRST_COINS, check_held, first_coins, open_verifier};
 use std::process::ExitCode;
-use streams::failure;
-use streams::failure::Failure;
+use streams::arguments::arguments;
+use streams::failure::{Failure, exit_code};
 use streams::files::read_file;
 use streams::lines::LinesIn;
 use streams::stream::Dice;
@@ -24,9 +22,6 @@ use verdicts::verdict::Verdict;
 use verifier::verifier::Verifier;
 
 const USAGE: &str = "judge CIRCUIT INPUTS OUTPUTS DICE";
-
-// no circuit has more first coins
-const MOST_FIRST_COINS: usize = 16;
 
 // Draws the first coins; each is printed once it is known to be one.
 fn draw_first(rt: &HostRuntime, dice: &mut Dice, coins: &mut [u32]) -> Result<(), Failure> {
@@ -48,21 +43,21 @@ fn turn(
 ) -> Result<Option<Verdict>, Failure>
     requires { 0 < length (stand_of verifier.old).layers }
 {
-    match hear(verifier, line) {
-        Err(verdict) => Ok(Some(verdict)),
-        Ok(answer) => match dice.due(rt) {
-            Err(failure) => {
-                answer.lapse();
-                Err(failure)
-            }
-            Ok(word) => {
-                let coin = answer.coin(word)?;
-                verifier.step(coin);
-                println!(rt; "{word}")?;
-                Ok(None)
-            }
-        },
-    }
+    let answer = match hear(verifier, line) {
+        Ok(answer) => answer,
+        Err(verdict) => return Ok(Some(verdict)),
+    };
+    // an answer cannot just be let go, so no `?` here
+    let word = match dice.due(rt) {
+        Ok(word) => word,
+        Err(failure) => {
+            answer.lapse();
+            return Err(failure);
+        }
+    };
+    verifier.step(answer.coin(word)?);
+    println!(rt; "{word}")?;
+    Ok(None)
 }
 
 // Line by line down to the inputs, and there the claim is settled.
@@ -74,7 +69,7 @@ fn talk(
 ) -> Result<Verdict, Failure> {
     for _ in 0..u64::MAX {
         if verifier.at_inputs() {
-            break;
+            return Ok(verifier.settle());
         }
         let Some(line) = house.next(rt.alloc())? else {
             return Ok(verifier.doubt());
@@ -83,11 +78,7 @@ fn talk(
             return Ok(verdict);
         }
     }
-    if verifier.at_inputs() {
-        Ok(verifier.settle())
-    } else {
-        Ok(verifier.doubt())
-    }
+    Ok(verifier.doubt())
 }
 
 // Where it would believe, nothing may be left in DICE; where it does not, it reads on, so that the house can finish writing.
@@ -97,18 +88,14 @@ fn conclude(
     dice: &mut Dice,
     house: &mut LinesIn,
 ) -> Result<(), Failure> {
-    let line = VerdictLine { verdict };
-    match verdict {
-        Verdict::Believed => {
-            dice.close(rt)?;
-            println!(rt; "{line}")?;
-            Ok(())
-        }
-        Verdict::Stopped(_, _) => {
-            println!(rt; "{line}")?;
-            house.drain(rt.alloc())?;
-            Err(Failure::NotBelieved)
-        }
+    if verdict == Verdict::Believed {
+        dice.close(rt)?;
+        println!(rt; "{verdict}")?;
+        Ok(())
+    } else {
+        println!(rt; "{verdict}")?;
+        house.drain(rt.alloc())?;
+        Err(Failure::NotBelieved)
     }
 }
 
@@ -147,17 +134,7 @@ fn judge<'a>(
 }
 
 fn work(rt: &HostRuntime) -> Result<(), Failure> {
-    let mut args = env::args(rt)?;
-    let (_, Some(circuit), Some(inputs), Some(claimed), Some(dice), None) = (
-        args.next(),
-        args.next(),
-        args.next(),
-        args.next(),
-        args.next(),
-        args.next(),
-    ) else {
-        return Err(Failure::Usage);
-    };
+    let [circuit, inputs, claimed, dice] = arguments::<4>(rt)?;
     let circuit = read_file(rt, circuit.as_str())?;
     let inputs = read_file(rt, inputs.as_str())?;
     let claimed = read_file(rt, claimed.as_str())?;
@@ -170,10 +147,6 @@ fn work(rt: &HostRuntime) -> Result<(), Failure> {
     )
 }
 
-// What a failure has to say is said by then: it is not printed again.
 fn main(rt: HostRuntime) -> ExitCode {
-    match failure::ended(&rt, USAGE, work(&rt)) {
-        Ok(()) => ExitCode::SUCCESS,
-        Err(_) => ExitCode::FAILURE,
-    }
+    exit_code(&rt, USAGE, work(&rt))
 }

@@ -1,20 +1,21 @@
 // Why a program ends with status 1, and what it says then.
 // A refusal is printed on standard output, as `no 3`; all else on standard error.
-ghost use Rattle.std.specs.Prelude.{◌≡◌, true, false, is_err, OnOk};
-ghost use Rattle.refusals.specs.Refusals.{number_of};
-ghost use Rattle.streams.specs.Failures.{IsSystem};
+ghost use Rattle.std.specs.Prelude.{◌≡◌, cond, is_err};
+ghost use Rattle.std.specs.Process.{exit_status};
+ghost use Rattle.streams.specs.Failures.{IsSystem, TextFailed};
 ghost use Rattle.streams.specs.declared.failure.Failure.TheVariants.{Refused, System};
 
 use refusals::Refusal;
 use std::alloc::AllocError;
 use std::io;
+use std::process::ExitCode;
+use texts::error::TextError;
 
 #[derive(Drop)]
 pub enum Failure {
     // not the arguments that it takes
     Usage,
-    // the number of a refusal
-    Refused(u32),
+    Refused(Refusal),
     // something that was judged and not believed, which has been printed already
     NotBelieved,
     // wanting memory, or lines that cannot be read or written
@@ -30,44 +31,53 @@ impl From<io::Error> for Failure {
 }
 
 impl From<Refusal> for Failure {
-    ghost from_gives = { λ e r. r ≡ Refused (number_of e) };
+    ghost from_gives = { λ e r. r ≡ Refused e };
 
     fn from(refusal: Refusal) -> Failure {
-        refused(refusal)
+        Failure::Refused(refusal)
     }
 }
 
 impl From<AllocError> for Failure {
     ghost from_gives = { λ _ r. IsSystem r };
 
-    fn from(_error: AllocError) -> Failure {
+    fn from(_: AllocError) -> Failure {
         Failure::System(io::Error::from(io::ErrorKind::OutOfMemory))
     }
 }
 
-// The failure that a refusal is.
-pub fn refused(refusal: Refusal) -> Failure
-    ensures { result ≡ Refused (number_of refusal) }
-{
-    Failure::Refused(refusal.number())
+impl From<TextError> for Failure {
+    ghost from_gives = { TextFailed };
+
+    fn from(error: TextError) -> Failure {
+        match error.refusal() {
+            Some(refusal) => Failure::from(refusal),
+            None => Failure::from(AllocError),
+        }
+    }
 }
 
 // Says why the program with this usage line ends.
+// No Display: each kind goes to a stream of its own, and one of them needs the usage line.
 pub fn tell(rt: &HostRuntime, usage: &str, failure: &Failure) -> io::Result<()> {
     match failure {
         Failure::Usage => eprintln!(rt; "usage: {usage}"),
-        Failure::Refused(number) => println!(rt; "no {number}"),
+        Failure::Refused(why) => println!(rt; "no {}", why.number()),
         Failure::NotBelieved => Ok(()),
         Failure::System(error) => eprintln!(rt; "{error}"),
     }
 }
 
-// How a program ends that has done its work so: a failure is reported, and given back it makes the status 1.
-pub fn ended(rt: &HostRuntime, usage: &str, done: Result<(), Failure>) -> Result<(), Failure>
-    ensures { OnOk result (is_err done ≡ false) }
+// How a program ends that has done its work so: a failure is reported, and makes the status 1.
+pub fn exit_code(rt: &HostRuntime, usage: &str, done: Result<(), Failure>) -> ExitCode
+    ensures { exit_status result ≡ cond (is_err done) 1 0 }
 {
-    if let Err(failure) = &done {
-        tell(rt, usage, failure)?;
+    match done {
+        Ok(()) => ExitCode::SUCCESS,
+        Err(failure) => {
+            // where it cannot be said, the status says it alone
+            let _ = tell(rt, usage, &failure);
+            ExitCode::FAILURE
+        }
     }
-    done
 }

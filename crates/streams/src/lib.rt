@@ -2,6 +2,7 @@
 // No contract can say what is read; what is made of it is said by the functions of `programs`.
 #![tactic(auto)]
 
+pub mod arguments;
 pub mod failure;
 pub mod files;
 pub mod lines;

@@ -1,17 +1,17 @@
 // The file DICE, read byte by byte and never ahead: it may be a pipe that is fed coin by coin.
 // What each byte makes known is the scanner's.
 ghost use Rattle.std.specs.Prelude.{◌≡◌, IfErr, MatchResult};
-ghost use Rattle.programs.specs.Drawing.{last_drawn};
 ghost use Rattle.programs.specs.Scanning.{at_end};
 ghost use Rattle.streams.specs.Failures.{IsSystem, RefusedBy};
 
-use crate::failure::{Failure, refused};
-use programs::drawn::Drawn;
-use programs::scanner::{Scanned, Spot};
+use crate::failure::Failure;
+use programs::drawn::{Drawn, NoNumber, due, nothing_left};
+use programs::scanner::Spot;
 use refusals::Refusal;
 use std::fs::File;
 use std::io::Read;
-use std::{fs, io};
+use std::{fs, io, mem};
+use texts::gap::Gap;
 
 #[derive(Drop)]
 pub struct Dice {
@@ -22,58 +22,48 @@ pub struct Dice {
 impl Dice {
     // Opens the file; a refusal is by 5. Why it could not be opened goes to standard error.
     pub fn open(rt: &HostRuntime, path: &str) -> Result<Dice, Failure>
-        ensures { MatchResult result (λ d. d.spot ≡ Spot.First) (RefusedBy 5) }
+        ensures { MatchResult result (λ d. d.spot ≡ Spot.Gap Gap.First) (RefusedBy 5) }
     {
         match fs::open(rt, path) {
             Ok(file) => Ok(Dice {
                 file,
-                spot: Spot::First,
+                spot: Spot::Gap(Gap::First),
             }),
             Err(error) => {
                 eprintln!(rt; "{path}: {error}")?;
-                Err(refused(Refusal::UnknownForm))
+                Err(Failure::from(Refusal::UnknownForm))
             }
         }
     }
 
     // What the end of the file makes known, and after that nothing.
-    fn end(&mut self) -> Drawn
-        ensures drawn { result ≡ last_drawn (at_end self.old.spot) }
-        ensures over { self.new.spot ≡ Spot.First }
+    fn end(&mut self) -> Option<u32>
+        ensures drawn { result ≡ at_end self.old.spot }
+        ensures over { self.new.spot ≡ Spot.Gap Gap.First }
     {
-        let spot = self.spot;
-        self.spot = Spot::First;
-        match spot.end() {
-            Some(number) => Drawn::Number(number),
-            None => Drawn::End,
-        }
+        mem::replace(&mut self.spot, Spot::Gap(Gap::First)).end()
     }
 
     // One more byte, or none at the end.
     fn byte(&mut self) -> io::Result<Option<u8>> {
         let mut byte = [0u8; 1];
-        if self.file.read(&mut byte)? == 0 {
-            Ok(None)
-        } else {
-            Ok(Some(byte[0]))
-        }
+        let len = self.file.read(&mut byte)?;
+        Ok((len > 0).then_some(byte[0]))
     }
 
     // Reads on to the byte that ends the next word.
     fn draw(&mut self) -> io::Result<Drawn> {
         for _ in 0..u64::MAX {
             let Some(byte) = self.byte()? else {
-                return Ok(self.end());
+                return Ok(Ok(self.end()));
             };
-            let (spot, scanned) = self.spot.push(byte);
+            let (spot, word) = self.spot.push(byte);
             self.spot = spot;
-            match scanned {
-                Scanned::More => {}
-                Scanned::Number(number) => return Ok(Drawn::Number(number)),
-                Scanned::NoNumber => return Ok(Drawn::NoNumber),
+            if word != Ok(None) {
+                return Ok(word);
             }
         }
-        Ok(Drawn::End)
+        Ok(Ok(None))
     }
 
     // The next word; a file that cannot be read holds none that is a number, and the reason goes to standard error.
@@ -81,21 +71,21 @@ impl Dice {
         ensures { IfErr result IsSystem }
     {
         match self.draw() {
-            Ok(drawn) => Ok(drawn),
+            Ok(word) => Ok(word),
             Err(error) => {
                 eprintln!(rt; "{error}")?;
-                Ok(Drawn::NoNumber)
+                Ok(Err(NoNumber))
             }
         }
     }
 
     // The number where a coin is due.
     pub fn due(&mut self, rt: &HostRuntime) -> Result<u32, Failure> {
-        Ok(self.word(rt)?.due()?)
+        Ok(due(self.word(rt)?)?)
     }
 
     // That nothing is left.
     pub fn close(&mut self, rt: &HostRuntime) -> Result<(), Failure> {
-        Ok(self.word(rt)?.nothing()?)
+        Ok(nothing_left(self.word(rt)?)?)
     }
 }
