@@ -1,6 +1,6 @@
 -- Tables added place by place, and the weights that shares' tables add up to.
 -- The sum of one share's table and nothing is that table, since its numbers are reduced.
-use Rattle.std.proofs.Common.{◌≡◌, ℕ, suc, ◌+◌, ◌*◌, ◌%◌, ◌<◌, ◌≤◌, T, ltb, List, [], ◌∷◌, ◌++◌, length, get_or, drop, sym, ap, ◌∙◌, subst, add-zero, mod-lt, mod-eq_of_lt, arith, lt→ltb}
+use Rattle.std.proofs.Common.{◌≡◌, ℕ, suc, ◌+◌, ◌*◌, ◌%◌, ◌^◌, ◌<◌, ◌≤◌, T, ltb, List, [], ◌∷◌, ◌++◌, length, get_or, drop, sym, ap, ◌∙◌, subst, add-zero, mod-lt, mod-eq_of_lt, arith, lt→ltb, pow_mono}
 use Rattle.std.proofs.lemmas.List.{append-nil, drop_all}
 use Rattle.arithmetic.specs.Numbers.{modulo, all_reduced}
 use Rattle.arithmetic.proofs.Truth.{and_both}
@@ -34,6 +34,10 @@ plus_nothing p x h = sym (ap (λ (n : ℕ). n % p) (add-zero x) ∙ mod-eq_of_lt
 -- a table that fills its room
 pub filled : (room table words : List ℕ) (n : ℕ) → length room ≡ n → words ≡ table ++ drop n room → words ≡ table
 filled room table words n e h = h ∙ ap (λ (xs : List ℕ). table ++ xs) (drop_all n room (omega arith)) ∙ append-nil table
+
+-- no table has more places
+pub pow_at_most : (n : ℕ) → n ≤ 16 → 2 ^ n ≤ 65536
+pow_at_most n h = pow_mono h
 
 -- the weights of one share, and of two
 module _ (p size : ℕ) (positive : 0 < p) where

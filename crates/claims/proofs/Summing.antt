@@ -1,10 +1,10 @@
 -- The sum over a claim's shares, with the copies' variables fixed first.
 -- Fixing them is the beginning of a halving at each share's whole point.
-use Rattle.std.proofs.Common.{◌≡◌, ℕ, ◌+◌, ◌-◌, ◌*◌, ◌/◌, ◌%◌, ◌^◌, ◌<◌, ◌≤◌, T, List, [], ◌∷◌, ◌++◌, length, get_or, take, drop, sym, refl, ap, ◌∙◌, subst, ap₂, mod-lt, arith, length-append}
-use Rattle.std.proofs.lemmas.List.{drop_at, get_or_append_left}
+use Rattle.std.proofs.Common.{◌≡◌, ℕ, ◌+◌, ◌*◌, ◌/◌, ◌%◌, ◌^◌, ◌<◌, ◌≤◌, T, List, [], ◌∷◌, ◌++◌, length, get_or, take, drop, sym, refl, ap, ◌∙◌, subst, ap₂, mod-lt, arith, length-append}
+use Rattle.std.proofs.lemmas.List.{get_or_append_left}
 use Rattle.arithmetic.specs.Numbers.{modulo, all_reduced}
 use Rattle.tables.specs.Multilinear.{mle, fix_first}
-use Rattle.tables.proofs.HalvingSteps.{Halving, halving_none, halving_more}
+use Rattle.tables.proofs.HalvingSteps.{Halving, halving_more}
 use Rattle.argument.specs.Claims.{Share, share_sum}
 use Rattle.claims.proofs.Adding.{plus_nothing}
 
@@ -13,14 +13,6 @@ pub record Fixing (p : ℕ) (xs point table : List ℕ) (i len : ℕ) : Type 0 w
   pub fits : len ≤ length table
   pub reduced : T (all_reduced (modulo p) table)
   pub halves : (z : List ℕ) → length xs ≡ 2 ^ (length point + length z) → Halving p xs (point ++ z) table i len
-
-pub fixing_none : (p : ℕ) (xs point : List ℕ) → T (all_reduced (modulo p) xs) → Fixing p xs point xs 0 (length xs)
-fixing_none p xs point t =
-    record {
-      fits = omega arith;
-      reduced = t;
-      halves = λ z e. halving_none p xs (point ++ z) (e ∙ ap (λ (n : ℕ). 2 ^ n) (sym (length-append point z))) t;
-    }
 
 pub fixing_more : {p : ℕ} {xs point table : List ℕ} {i len : ℕ} → Fixing p xs point table i len → (live next : List ℕ) (end : ℕ) →
     end ≡ len → i < length point →
@@ -38,16 +30,6 @@ fixing_more {p} {xs} {point} {table} {i} {len} h live next end same inside e t i
           (halving_more (h.halves z size) live end same room
           (e ∙ ap (λ (r : ℕ). fix_first (modulo p) r (take end table) ++ drop (length (take end table) / 2) (take end table)) (sym there)) t);
     }
-
-pub fixing_all : {p : ℕ} {xs point table : List ℕ} {i len : ℕ} → Fixing p xs point table i len → i ≡ length point →
-    (z : List ℕ) → length xs ≡ 2 ^ (length point + length z) →
-    (len ≡ 2 ^ length z) × (mle (modulo p) (take len table) z ≡ mle (modulo p) xs (point ++ z))
-fixing_all {p} {xs} {point} {table} {i} {len} h all z size =
-    let halved = h.halves z size in
-    let left : length (point ++ z) - i ≡ length z = omega (arith, length-append point z) in (
-      halved.size ∙ ap (λ (n : ℕ). 2 ^ n) left,
-      ap (mle (modulo p) (take len table)) (sym (drop_at point z i (sym all))) ∙ halved.value,
-    )
 
 -- ---- sums over one share and over two
 module _ (p : ℕ) (positive : 0 < p) (table : List ℕ) where

@@ -7,6 +7,7 @@ pub mod cut;
 pub mod drawn;
 pub mod extension;
 pub mod message;
+pub mod opening;
 pub mod share;
 pub mod sums;
 pub mod wiring;
