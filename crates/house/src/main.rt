@@ -5,7 +5,6 @@
 ghost use Rattle.std.specs.Prelude.{◌≡◌, ◌<◌, length, IfOk};
 ghost use Rattle.argument.specs.Argument.{first_coins};
 ghost use Rattle.circuits.specs.Words.{modulus, circuit_of};
-ghost use Rattle.phases.specs.Standing.{Rooms};
 ghost use Rattle.programs.specs.Held.{Given};
 ghost use Rattle.prover.specs.Provers.{Stands};
 
@@ -15,10 +14,9 @@ use programs::answering::is_last;
 use programs::given::{check_given, open_prover};
 use programs::held::{MOST_FIRST_COINS, first_coins};
 use programs::number::coin_heard;
-use prover::answer::Answer;
-use prover::hearing::hear;
+use claims::message::Message;
+use phases::quarters::Tables;
 use prover::prover::HonestProver;
-use prover::saying::say;
 use refusals::Refusal;
 use std::process::ExitCode;
 use streams::arguments::arguments;
@@ -29,8 +27,8 @@ use texts::line::Line;
 
 const USAGE: &str = "house CIRCUIT INPUTS";
 
-// words in each of the four tables that the prover works in
-const TABLE: usize = 65536;
+// words of the four tables that the prover works in
+const WORK: usize = 262144;
 
 // The coin in the next line.
 fn next_coin(rt: &HostRuntime, judge: &mut LinesIn) -> Result<u32, Failure>
@@ -47,40 +45,30 @@ fn hear_first(rt: &HostRuntime, judge: &mut LinesIn, coins: &mut [u32]) -> Resul
     Ok(())
 }
 
-fn print_answer(rt: &HostRuntime, answer: Answer) -> Result<(), Failure> {
-    match answer {
-        Answer::Round(numbers) => {
-            let line = Line { numbers: &numbers };
-            println!(rt; "{line}")?;
-        }
-        Answer::Values(numbers) => {
-            let line = Line { numbers: &numbers };
-            println!(rt; "{line}")?;
-        }
-    }
+fn print_answer(rt: &HostRuntime, answer: Message) -> Result<(), Failure> {
+    let line = Line {
+        numbers: answer.as_slice(),
+    };
+    println!(rt; "{line}")?;
     Ok(())
 }
 
 // By turns an answer and a coin.
-fn talk<'a>(
+fn talk(
     rt: &HostRuntime,
     judge: &mut LinesIn,
-    prover: HonestProver<'a>,
-    v: &mut [u32],
-    w: &mut [u32],
-    h: &mut [u32],
-    j: &mut [u32],
+    mut prover: HonestProver,
+    tables: &mut Tables,
 ) -> Result<(), Failure>
-    requires { Stands 0 0 prover v.old w.old h.old j.old }
+    requires { Stands 0 0 prover tables.old }
 {
-    let mut current = prover;
     for _ in 0..u64::MAX {
-        print_answer(rt, say(current, v, w, h, j))?;
+        print_answer(rt, prover.say(tables))?;
         let coin = next_coin(rt, judge)?;
-        if is_last(current) {
+        if is_last(&prover) {
             break;
         }
-        current = hear(current, coin, v, w, h, j);
+        prover.hear(coin, tables);
     }
     Ok(())
 }
@@ -91,39 +79,29 @@ fn argue<'a>(
     circuit: &'a [u32],
     inputs: &'a [u32],
     coins: &mut [u32],
-    v: &mut [u32],
-    w: &mut [u32],
-    h: &mut [u32],
-    j: &mut [u32],
+    tables: &mut Tables,
 ) -> Result<(), Failure>
     requires given { Given circuit.now inputs.now }
     requires coins { length coins.old ≡ first_coins (circuit_of circuit.now) }
-    requires rooms { (Rooms v.old w.old h.old) × (length j.old ≡ 65536) }
 {
     let mut judge = LinesIn::new(rt)?;
     hear_first(rt, &mut judge, coins)?;
     check_reduced::<Mersenne31>(coins)?;
-    let prover = open_prover(circuit, inputs, coins, v, w, h, j);
-    talk(rt, &mut judge, prover, v, w, h, j)
+    let prover = open_prover(circuit, inputs, coins, tables);
+    talk(rt, &mut judge, prover, tables)
 }
 
 fn house<'a>(rt: &HostRuntime, circuit: &'a [u32], inputs: &'a [u32]) -> Result<(), Failure> {
     check_given(circuit, inputs)?;
     let mut room = [0u32; MOST_FIRST_COINS];
-    let mut v = [0u32; TABLE];
-    let mut w = [0u32; TABLE];
-    let mut h = [0u32; TABLE];
-    let mut j = [0u32; TABLE];
+    let mut work = [0u32; WORK];
     let count = first_coins(circuit);
     argue(
         rt,
         circuit,
         inputs,
         &mut room[0..count],
-        &mut v,
-        &mut w,
-        &mut h,
-        &mut j,
+        &mut Tables::over(&mut work),
     )
 }
 

@@ -1,14 +1,13 @@
 // Whether the answer that the honest prover is about to give is its last.
 // After the last coin nothing is answered.
 ghost use Rattle.std.specs.Prelude.{◌≡◌, ◌==◌};
-ghost use Rattle.prover.specs.Provers.{Sound, coins_left};
+ghost use Rattle.prover.specs.Provers.{coins_left};
 
+use prover::due::Due;
 use prover::prover::HonestProver;
 
-pub fn is_last(prover: HonestProver) -> bool
-    requires { Sound prover }
-    ensures { result ≡ (coins_left prover.entry == 1) }
+pub fn is_last(prover: &HonestProver) -> bool
+    ensures { result ≡ (coins_left prover.now == 1) }
 {
-    let variables = prover.rest.copies() as usize + 2 * prover.layer.size_below() as usize;
-    prover.rest.count() == 0 && prover.drawn == variables
+    prover.layers_below() == 0 && prover.due() == Due::Values
 }

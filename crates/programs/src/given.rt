@@ -6,15 +6,13 @@ ghost use Rattle.argument.specs.Argument.{first_coins};
 ghost use Rattle.argument.specs.Honest.{honest};
 ghost use Rattle.refusals.specs.Refusals.{number_of};
 ghost use Rattle.circuits.specs.Words.{modulus, circuit_of, run_verdict};
-ghost use Rattle.phases.specs.Standing.{Rooms};
 ghost use Rattle.prover.specs.Provers.{Stands, speaks};
 ghost use Rattle.circuits.specs.Circuit.{output_size};
 ghost use Rattle.programs.specs.Held.{Given};
 
 use arithmetic::mersenne::Mersenne31;
 use circuits::{CircuitView, check_circuit, check_counts, check_reduced};
-use prover::hearing::begin;
-use prover::opening::open;
+use phases::quarters::Tables;
 use prover::prover::HonestProver;
 use refusals::Refusal;
 
@@ -33,16 +31,12 @@ pub fn open_prover<'a>(
     circuit: &'a [u32],
     inputs: &'a [u32],
     coins: &[u32],
-    v: &mut [u32],
-    w: &mut [u32],
-    h: &mut [u32],
-    j: &mut [u32],
+    tables: &mut Tables,
 ) -> HonestProver<'a>
     requires given { Given circuit.now inputs.now }
     requires coins { (length coins.now ≡ first_coins (circuit_of circuit.now)) × (all_reduced (modulo modulus) coins.now ≡ true) }
-    requires rooms { (Rooms v.old w.old h.old) × (length j.old ≡ 65536) }
     ensures says { (later : List ℕ) → speaks result later ≡ honest (modulo modulus) (circuit_of circuit.now) inputs.now (take (first_coins (circuit_of circuit.now)) coins.now ++ later) }
-    ensures stands { Stands 0 0 result v.new w.new h.new j.new }
+    ensures stands { Stands 0 0 result tables.new }
 {
-    begin(open(CircuitView::new(circuit), inputs, coins), v, w, h, j)
+    HonestProver::open(CircuitView::new(circuit), inputs, coins, tables)
 }
