@@ -60,6 +60,7 @@ fn sum_row<M: Modular>(layer: LayerView, weights: &[u32], low: &[u32], high: &[u
 {
     let mut sums = [0; 4];
     for (i, weight) in weights.iter().enumerate().rev() {
+        // No proof is made of a call whose array goes straight into a variable that is there.
         let more = add_gate::<M>(layer.gate(i), *weight, low, high, sums);
         sums = more;
     }

@@ -50,6 +50,7 @@ pub fn sum_round<M: Modular>(v: &[u32], h: &[u32], j: &[u32]) -> [u32; 4]
         let h_values = line_values::<M>(*h0, *h1);
         let j_values = line_values::<M>(*j0, *j1);
         let products = mul_each::<M>(v_values, h_values);
+        // No proof is made of a call whose array goes straight into a variable that is there.
         let more = add_each::<M>(sums, add_each::<M>(products, j_values));
         sums = more;
     }

@@ -42,11 +42,6 @@ module _ {K : Type 0} {N : Numbers K} (R : Ring N) where
   combine-drop (suc n) s t (a ∷ xs) [] = sym (combine-nil s t (drop n xs))
   combine-drop (suc n) s t (a ∷ xs) (b ∷ ys) = combine-drop n s t xs ys
 
-  blend-nil : (r : K) (xs : List K) → blend N r xs [] ≡ []
-  unfolding blend
-  blend-nil r [] = refl
-  blend-nil r (a ∷ xs) = refl
-
   -- to combine and to blend may change places
   blend-combine : (r s t : K) (xs ys us vs : List K) → blend N r (combine N s t xs us) (combine N s t ys vs) ≡ combine N s t (blend N r xs ys) (blend N r us vs)
   unfolding blend combine

@@ -29,9 +29,6 @@ line_values-factors-requires g c =
     let ((a, b), (lo, hi)) = c.in-Some.ensures.steps in
     (copy_read c.loop-low_eq.invariant _ _ _ _ a b lo.1.0 lo.1.1 hi.1.0 hi.1.1 positive c.requires.eq c.requires.values.1).factors
 
-pub add_each-more-requires-clause-a : goal.add_each-more-requires-clause-a
-add_each-more-requires-clause-a g c = c.loop-low_eq.invariant.sums.below
-
 pub loop-low_eq-preserved : goal.loop-low_eq-preserved
 loop-low_eq-preserved g c =
     let several : 1 < g.M.Modular.modulus = omega (arith, g.met.M.Modular.above) in

@@ -16,9 +16,6 @@ loop-i-init g c =
 pub add_gate-more-requires-clause-weight : goal.add_gate-more-requires-clause-weight
 add_gate-more-requires-clause-weight g c = passed_below c.loop-i.invariant.passed _ _ c.in-Some.ensures.steps.1.0 c.requires.weights.1
 
-pub add_gate-more-requires-clause-sums : goal.add_gate-more-requires-clause-sums
-add_gate-more-requires-clause-sums g c = c.loop-i.invariant.passed.sums.below
-
 pub loop-i-preserved : goal.loop-i-preserved
 loop-i-preserved g c =
     let gs = gates_seen c.args.layer in

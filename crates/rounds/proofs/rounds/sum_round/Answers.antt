@@ -27,9 +27,6 @@ line_values-j_values-requires g c =
     let (vhs, (a, b)) = c.in-Some.ensures.steps in
     halves_below c.loop-v0.invariant.j_left a b positive c.requires.j_reduced
 
-pub add_each-more-requires-clause-a : goal.add_each-more-requires-clause-a
-add_each-more-requires-clause-a g c = c.loop-v0.invariant.sums.below
-
 pub loop-v0-preserved : goal.loop-v0-preserved
 loop-v0-preserved g c =
     let (((a, b), (d, e)), (f, i)) = c.in-Some.ensures.steps in
