@@ -1,7 +1,7 @@
 -- How the parts of a transcript join: one step more, a step that does not fit, and one part after another.
 -- All of it unfolds the machine's run by one step at a time.
-use Rattle.std.proofs.Common.{◌≡◌, ℕ, zero, suc, ◌+◌, ◌-◌, ◌*◌, ◌<◌, ◌≤◌, ◌⊎◌, inl, inr, Bool, true, false, cond, List, [], ◌∷◌, ◌++◌, length, get_or, take, drop, sym, refl, ap, ◌∙◌, subst, ap₂, arith, length-drop}
-use Rattle.std.proofs.lemmas.List.{append_assoc, take_at, drop_at, take_more, drop_more, take-append-drop, take_all, drop-drop, length_push}
+use Rattle.std.proofs.Common.{◌≡◌, ℕ, zero, suc, ◌+◌, ◌-◌, ◌*◌, ◌<◌, ◌≤◌, Bool, true, false, cond, List, [], ◌∷◌, ◌++◌, length, get_or, take, drop, sym, refl, ap, ◌∙◌, ap₂, arith, length-drop}
+use Rattle.std.proofs.lemmas.List.{append_assoc, take_at, drop_at, take_more, drop_more, take-append-drop, drop-drop, length_push}
 use Rattle.argument.specs.Transcript.{fours}
 use Rattle.verdicts.specs.declared.verdict.Verdict.{Verdict}
 use Rattle.verdicts.specs.Machine.{Stand, variables_of, fits, next, doubt, resume}
@@ -126,15 +126,6 @@ hearing_ends {vs} {s} {ws} {coins} {i} {t} h a v l ea fit ev rest later =
     (sym (take-append-drop i coins) ∙ ap (λ (ys : List ℕ). take i coins ++ ys) (drop_more coins i 0 l)) ∙
     ends_there vs s t (fours i ws) others (take i coins) (drop (i + 1) coins) a (get_or coins i 0) v h.leads fit ev rest later
 
-pub hearing_all : {vs : List ℕ} {s : Stand ℕ} {ws coins : List ℕ} {i : ℕ} {t : Stand ℕ} → Hearing vs s ws coins i t → i ≡ length coins →
-    Leads vs s (fours (length coins) ws) coins t × AtVariable s t (length coins)
-hearing_all {vs} {s} {ws} {coins} {i} {t} h e = (
-  λ rest later.
-      ap₂ (λ (n : ℕ) (ys : List ℕ). resume numbers vs s (fours n ws ++ rest) (ys ++ later)) (sym e) (sym (take_all i coins (omega arith))) ∙
-      h.leads rest later,
-  subst (λ (n : ℕ). AtVariable s t n) e h.at,
-)
-
 -- the same along the fours of the words and the coins that are left
 pub record Passing (vs : List ℕ) (s : Stand ℕ) (ws coins : List ℕ) (size : ℕ) (words_left coins_left : List ℕ) (t : Stand ℕ) : Type 0 where
   pub done : ℕ
@@ -187,11 +178,3 @@ module _ {vs : List ℕ} {s : Stand ℕ} {ws coins : List ℕ} {size : ℕ} {wor
 
   pub passing_ends : (v : Verdict) → fits numbers t a ≡ false → v ≡ doubt t → Ends vs s (fours (length coins) ws) coins v
   passing_ends v fit ev = hearing_ends h.heard a v passing_taken.inside passing_taken.said fit ev
-
-pub passing_all : {vs : List ℕ} {s : Stand ℕ} {ws coins : List ℕ} {size : ℕ} {words_left coins_left : List ℕ} {t : Stand ℕ} →
-    Passing vs s ws coins size words_left coins_left t → length ws ≡ 4 * length coins →
-    (length words_left < size) ⊎ (length coins_left ≡ 0) → Leads vs s (fours (length coins) ws) coins t × AtVariable s t (length coins)
-passing_all {vs} {s} {ws} {coins} {size} {words_left} {coins_left} {t} h long (inl less) =
-    hearing_all h.heard (omega (arith, less, long, h.within, h.four, ap length h.words, length-drop (4 * h.done) ws))
-passing_all {vs} {s} {ws} {coins} {size} {words_left} {coins_left} {t} h long (inr none) =
-    hearing_all h.heard (omega (arith, none, h.within, ap length h.coins_are, length-drop h.done coins))

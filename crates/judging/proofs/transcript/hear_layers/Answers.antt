@@ -1,5 +1,5 @@
 -- Each turn hears one layer more, whose words and coins are there.
-use Rattle.std.proofs.Common.{◌≡◌, ℕ, ◌+◌, ◌*◌, true, List, take, drop, sym, refl, ap, ◌∙◌, subst, arith}
+use Rattle.std.proofs.Common.{◌≡◌, ℕ, ◌+◌, ◌*◌, true, List, take, drop, sym, ap, ◌∙◌, subst, arith}
 use Rattle.std.proofs.lemmas.Result.{err_from_is_err_and}
 use Rattle.arithmetic.specs.Numbers.{all_reduced}
 use Rattle.circuits.specs.Words.{modulus}
@@ -23,18 +23,6 @@ coins_here n v part ws is e = is ∙ ap (λ (k : ℕ). take (k + 1) ws) e
 coins_behind : (n v : ℕ) (part ws : List ℕ) → part ≡ drop (n + 1) ws → n ≡ v → part ≡ drop (v + 1) ws
 coins_behind n v part ws is e = is ∙ ap (λ (k : ℕ). drop (k + 1) ws) e
 
-pub loop-said-init : goal.loop-said-init
-loop-said-init c = (
-  record {
-    resumed = refl;
-    words = c.requires.counts.0;
-    coins_to_come = c.requires.counts.1;
-    reduced = c.requires.coins;
-    fresh = c.requires.fresh;
-  },
-  refl,
-)
-
 pub split_at-requires : goal.split_at-requires
 split_at-requires c =
     let t = stand_of c.loop-said.verifier in
@@ -47,33 +35,24 @@ split_at-requires-in-loop-said c =
     let some = layers_left t.layers c.at_inputs.result c.at_inputs.ensures c.loop-said-test.true in
     omega (arith, (walking_room c.loop-said.invariant.0 some).1, c.variables-variables.ensures.value)
 
-pub hear_layer-requires-clause-some : goal.hear_layer-requires-clause-some
-hear_layer-requires-clause-some c =
-    layers_left (stand_of c.loop-said.verifier).layers c.at_inputs.result c.at_inputs.ensures c.loop-said-test.true
-
 pub hear_layer-requires-clause-coins : goal.hear_layer-requires-clause-coins
 hear_layer-requires-clause-coins c =
     subst (λ (xs : List ℕ). all_reduced numbers xs ≡ true) (sym c.split_at-in-loop-said.ensures.front)
     (reduced_part modulus 0 (c.variables-variables.result + 1) c.loop-said.drawn.now c.loop-said.invariant.0.reduced)
 
-pub returns-in_err-hear_layer : goal.returns-in_err-hear_layer
-returns-in_err-hear_layer c =
+pub returns-in_err-hear_layer-clause-heard : goal.returns-in_err-hear_layer-clause-heard
+returns-in_err-hear_layer-clause-heard c =
     let p = err_from_is_err_and c.from_residual.result c.from_residual.ensures.1 in
-    let history = c.in_err-hear_layer.ensures in
     let t = stand_of c.loop-said.verifier in
     let some = layers_left t.layers c.at_inputs.result c.at_inputs.ensures c.loop-said-test.true in
     let en = c.variables-variables.ensures.value in
     let part = c.split_at.result.0.now in
     let cs = c.split_at-in-loop-said.result.0.now in
-    record {
-      heard =
-          rw (p.1, p.2)
-          (walking_ends c.loop-said.invariant.0 some part c.split_at.result.1.now cs c.split_at-in-loop-said.result.1.now
-          (words_here _ _ _ _ c.split_at.ensures.front en) (words_behind _ _ _ _ c.split_at.ensures.back en)
-          (coins_here _ _ _ _ c.split_at-in-loop-said.ensures.front en) (coins_behind _ _ _ _ c.split_at-in-loop-said.ensures.back en) _
-          (subst (λ (vs : List ℕ). Ends vs t (layer_answers t part) cs c.in_err-hear_layer.field-0.0) c.loop-said.invariant.1 history.heard));
-      inputs = history.inputs ∙ c.loop-said.invariant.1;
-    }
+    rw (p.1, p.2)
+    (walking_ends c.loop-said.invariant.0 some part c.split_at.result.1.now cs c.split_at-in-loop-said.result.1.now
+    (words_here _ _ _ _ c.split_at.ensures.front en) (words_behind _ _ _ _ c.split_at.ensures.back en)
+    (coins_here _ _ _ _ c.split_at-in-loop-said.ensures.front en) (coins_behind _ _ _ _ c.split_at-in-loop-said.ensures.back en) _
+    (subst (λ (vs : List ℕ). Ends vs t (layer_answers t part) cs c.in_err-hear_layer.field-0.0) c.loop-said.invariant.1 c.in_err-hear_layer.ensures.heard))
 
 pub loop-said-preserved : goal.loop-said-preserved
 loop-said-preserved c =
@@ -91,8 +70,8 @@ loop-said-preserved c =
       history.inputs ∙ c.loop-said.invariant.1,
     )
 
-pub returns : goal.returns
-returns c =
+pub returns-clause-heard : goal.returns-clause-heard
+returns-clause-heard c =
     let t = stand_of c.loop-said.verifier in
     let none = no_layers_left t.layers c.at_inputs.result c.at_inputs.ensures c.loop-said-test.false in
-    record { heard = (none, walking_all c.loop-said.invariant.0 none); inputs = c.loop-said.invariant.1 }
+    (none, walking_all c.loop-said.invariant.0 none)
