@@ -8,7 +8,6 @@ ghost use Rattle.programs.specs.Judge.{Said, verdict, refusal, drawn, closed};
 
 use refusals::Refusal;
 
-
 #[derive(Clone, Copy, Drop)]
 pub enum Drawn {
     Number(u32),
