@@ -9,5 +9,5 @@ use prover::prover::HonestProver;
 pub fn is_last(prover: &HonestProver) -> bool
     ensures { result ≡ (coins_left prover.now == 1) }
 {
-    prover.layers_below() == 0 && prover.due() == Due::Values
+    prover.layers_below() == 0 && matches!(prover.due(), Due::Values)
 }

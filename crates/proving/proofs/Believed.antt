@@ -17,7 +17,7 @@ use Rattle.tables.proofs.ReducedLists.{reduced_from}
 use Rattle.argument.specs.Argument.{accepts, coins_of, first_coins, first_claim, layer_coins}
 use Rattle.argument.specs.Honest.{honest, honest_from}
 use Rattle.argument.specs.Claims.{Claim}
-use Rattle.argument.specs.Transcript.{answers_of, answer_words, answers_along, judged, prove_verdict, prover_of}
+use Rattle.argument.specs.Transcript.{answers_of, answer_words, answers_along, judged, prover_of}
 use Rattle.argument.proofs.Copies.{all_values_full}
 use Rattle.argument.proofs.Main.{main}
 use Rattle.proving.specs.Proves.{Ready, Answered}

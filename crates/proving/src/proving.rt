@@ -62,12 +62,7 @@ fn speak<'a>(
 {
     let mut tables = Tables::over(work);
     let prover = HonestProver::open(circuit, inputs, coins, &mut tables);
-    answer_all(
-        prover,
-        &coins[first_coins(circuit)..],
-        room,
-        &mut tables,
-    );
+    answer_all(prover, &coins[first_coins(circuit)..], room, &mut tables);
 }
 
 // The work is cleared whole, since nothing is known of it once its tables were lent.

@@ -23,12 +23,7 @@ fn write(message: Message, room: &mut [u32], at: usize) -> usize
     end
 }
 
-pub fn answer_all(
-    mut prover: HonestProver,
-    coins: &[u32],
-    room: &mut [u32],
-    tables: &mut Tables,
-)
+pub fn answer_all(mut prover: HonestProver, coins: &[u32], room: &mut [u32], tables: &mut Tables)
     requires stands { Stands 0 0 prover tables.old }
     requires counts { (length coins.now ≡ coins_left prover) × (length room.old ≡ words_left prover) }
     requires coins { T (all_reduced (modulo modulus) coins.now) }

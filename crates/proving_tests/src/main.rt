@@ -2,6 +2,8 @@
 // A coin that is itself 0, 1, 2 or 3 looks at the value there alone, so that a change at 2 or 3 may not be seen.
 #![tactic(auto)]
 
+ghost use Rattle.std.specs.Prelude.{◌<◌, length};
+
 use judging::judge::{Judge, VerifierJudge};
 use proving::house::{HonestHouse, House};
 use std::io;
@@ -20,33 +22,35 @@ fn changed(number: u32) -> u32 {
     if number >= MODULUS - 1 { 0 } else { number + 1 }
 }
 
-// How many of the answers' numbers cannot be changed by one unseen.
-fn seen(
+// Whether one of the answers' numbers cannot be changed by one unseen.
+fn is_seen(
     circuit: &[u32],
     inputs: &[u32],
     claimed: &[u32],
     answers: &mut [u32],
     coins: &[u32],
-) -> u32 {
-    let mut count: u32 = 0;
-    for i in 0..answers.len() {
-        let number = answers[i];
-        answers[i] = changed(number);
-        if VerifierJudge::judge(circuit, inputs, claimed, answers, coins) == 4 {
-            count = count.wrapping_add(1);
-        }
-        answers[i] = number;
-    }
-    count
+    place: usize,
+) -> bool
+    requires { place < length answers.old }
+{
+    let number = answers[place];
+    answers[place] = changed(number);
+    let judged = VerifierJudge::judge(circuit, inputs, claimed, answers, coins);
+    answers[place] = number;
+    judged == 4
 }
 
-fn zeros(words: &[u32]) -> bool {
-    for word in words {
-        if *word != 0 {
-            return false;
-        }
-    }
-    true
+// How many of them cannot.
+fn count_seen(
+    circuit: &[u32],
+    inputs: &[u32],
+    claimed: &[u32],
+    answers: &mut [u32],
+    coins: &[u32],
+) -> usize {
+    (0..answers.len())
+        .filter(|place| is_seen(circuit, inputs, claimed, answers, coins, *place))
+        .count()
 }
 
 // The three calls' answers, whether the work is clear then, and how many changed numbers are seen.
@@ -56,7 +60,7 @@ struct Outcome {
     proved: u32,
     judged: u32,
     clear: bool,
-    seen: u32,
+    seen: usize,
 }
 
 fn try_out(
@@ -73,8 +77,8 @@ fn try_out(
         ran,
         proved,
         judged: VerifierJudge::judge(circuit, inputs, outputs, answers, coins),
-        clear: zeros(&work),
-        seen: seen(circuit, inputs, outputs, answers, coins),
+        clear: work.iter().all(|word| *word == 0),
+        seen: count_seen(circuit, inputs, outputs, answers, coins),
     }
 }
 

@@ -24,13 +24,12 @@ loop-coin-preserved c =
     let i = c.loop-coin.coin-index in
     let split = c.in-Some.ensures.cases in
     let same : get_or c.args.coins.now i 0 ≡ get_or c.in-Some.before.now i 0 =
-    ap (λ xs. get_or xs i 0) split.0 ∙ get_or_append_left c.in-Some.before.now _ 0 i (omega arith) in
-    (
+    ap (λ xs. get_or xs i 0) split.0 ∙ get_or_append_left c.in-Some.before.now _ 0 i (omega arith) in (
       c.hear.ensures.stands,
       spoken_more c.args.prover c.args.coins.now i c.loop-coin.prover c.loop-coin.room c.write-at.new.room c.loop-coin.at c.write-at.result
-      (numbers_of c.say.result) c.loop-coin.invariant.1 c.say.ensures.answer c.say.ensures.reduced c.write-at.ensures.place c.write-at.ensures.words
-      c.hear.new.self (subst (λ (n : ℕ). Heard n c.loop-coin.prover c.hear.new.self) (sym same) c.hear.ensures.heard) c.say.ensures.length (omega arith)
-      (omega (arith, split.1)),
+          (numbers_of c.say.result) c.loop-coin.invariant.1 c.say.ensures.answer c.say.ensures.reduced c.write-at.ensures.place c.write-at.ensures.words
+          c.hear.new.self (subst (λ (n : ℕ). Heard n c.loop-coin.prover c.hear.new.self) (sym same) c.hear.ensures.heard) c.say.ensures.length (omega arith)
+          (omega (arith, split.1)),
     )
 
 pub returns : goal.returns
