@@ -29,9 +29,7 @@ fn measure(layers: LayersView) -> Lengths
     let mut rest = layers;
     let mut words = 0;
     let mut coins = 0;
-    // the views have no iterator over layers, and a counter of turns would only stand beside the views
-    while rest.count() > 0 {
-        let below = rest.rest();
+    while let Some((_, below)) = rest.split_first() {
         let variables = below.copies() as usize + 2 * below.top_size() as usize;
         words += 4 * variables + 2;
         coins += variables + 1;

@@ -4,8 +4,8 @@ use Rattle.circuits.specs.Views.{layers_seen}
 use Rattle.judging.proofs.Measuring.{Measuring}
 use Rattle.judging.proofs.checks.measure.Given as goal
 
-abbrev pub invariant-loop-rest : goal.invariant-loop-rest
-invariant-loop-rest l = Measuring l.layers l.rest l.words l.coins
+abbrev pub invariant-loop-below : goal.invariant-loop-below
+invariant-loop-below l = Measuring l.layers l.rest l.words l.coins
 
-abbrev pub decreases-loop-rest : goal.decreases-loop-rest
-decreases-loop-rest l = length (layers_seen l.rest)
+abbrev pub decreases-loop-below : goal.decreases-loop-below
+decreases-loop-below l = length (layers_seen l.rest)
