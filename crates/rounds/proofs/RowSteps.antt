@@ -1,4 +1,4 @@
--- The steps of a round's pass over rows and gates, from the last to the first, for the numbers modulo p.
+-- The steps of a round's pass over rows, and over a row's gates from the last to the first, for the numbers modulo p.
 -- At the end the four sums are the round's values.
 use Rattle.std.proofs.Common.{◌≡◌, ℕ, zero, suc, ◌+◌, ◌*◌, ◌/◌, ◌^◌, ◌<◌, ◌≤◌, true, ◌&&◌, T, ltb, List, [], ◌∷◌, ◌++◌, length, get_or, take, drop, sym, refl, ap, append_assoc, append-nil, length-append, ◌∙◌, subst, ap₂, zero-mul, arith, pow-add}
 use native.Mathlib.Nat.{two-pow-succ}
@@ -69,12 +69,6 @@ module _ {p : ℕ} {gs : List Gate} {ws low high left s : List ℕ} (h : RowPass
       same t =
           ap₂ (λ (x : Gate) (n : ℕ). (modulo p).add ((modulo p).mul w (gate_on_line (modulo p) x low high t)) (row_sum (modulo p) (drop n gs) h.done low high t)) e longer
           ∙ sym (ap (λ (l : List Gate). row_sum (modulo p) l (w ∷ h.done) low high t) (drop_more gs k d inside))
-
-pub passed_all : {p : ℕ} {gs : List Gate} {ws low high left s : List ℕ} → RowPassed p gs ws low high left s → left ≡ [] → FourOf p (row_sum (modulo p) gs ws low high) s
-passed_all {p} {gs} {ws} {low} {high} {left} {s} h end =
-    four_same p _ _ s
-    (λ t. ap₂ (λ (n : ℕ) (l : List ℕ). row_sum (modulo p) (drop n gs) l low high t) (ap length end) (sym (h.parts ∙ ap (λ (l : List ℕ). l ++ h.done) end)))
-    h.sums
 
 -- rows from the first to the last: one more at the end
 rows_last : (p : ℕ) → 1 < p → (m : ℕ) (gs : List Gate) (ws : List ℕ) (half : ℕ) (e v : List ℕ) (i n j t : ℕ) → i + n ≡ j →

@@ -3,7 +3,7 @@
 use Rattle.std.proofs.Common.{◌≡◌, ℕ, suc, ◌+◌, ◌*◌, ◌/◌, ◌^◌, ◌<◌, ◌≤◌, T, List, [], ◌∷◌, ◌++◌, map, length, get_or, take, drop, set, sym, refl, ap, ◌∙◌, subst, ap₂, append_assoc, arith, length-append, length-drop, pow_pos, pow_mono}
 use native.Mathlib.Nat.{two-pow-succ}
 use lib.ListN.{length-map}
-use Rattle.std.proofs.lemmas.List.{append-nil, length-take-le, take-take, take_at, drop_more, drop_all, drop-set-lt, get_or_at, set_at, map_more, take_more_set, take_all}
+use Rattle.std.proofs.lemmas.List.{append-nil, length-take-le, take-take, take_at, drop_more, drop-set-lt, get_or_at, set_at, map_more, take_more_set}
 use Rattle.std.proofs.lemmas.Slice.{drop-append-drop}
 use Rattle.arithmetic.specs.Numbers.{modulo, all_reduced}
 use Rattle.arithmetic.proofs.Modulo.{ring_modulo}
@@ -15,9 +15,6 @@ use Rattle.tables.proofs.ReducedLists.{reduced_anywhere}
 pub record Splitting {K : Type 0} (low high : K → K) (before first second : List K) (i : ℕ) : Type 0 where
   pub kept : first ≡ map low (take i before) ++ drop i before
   pub made : take i second ≡ map high (take i before)
-
-pub splitting_none : {K : Type 0} (low high : K → K) (before second : List K) → Splitting low high before before second 0
-splitting_none low high before second = record { kept = refl; made = refl }
 
 module _ {K : Type 0} {low high : K → K} {before first second : List K} {i : ℕ} (h : Splitting low high before first second i) where
   -- the number that a turn reads is as it was
@@ -38,13 +35,6 @@ module _ {K : Type 0} {low high : K → K} {before first second : List K} {i : �
         made =
             take_more_set second i y k ∙ ap₂ (λ (xs : List K) (z : K). xs ++ (z ∷ [])) h.made (f ∙ ap high (splitting_at d l)) ∙ sym (map_more high before i d l);
       }
-
-  pub splitting_all : length before ≤ i → length second ≤ i → first ++ second ≡ map low before ++ map high before
-  splitting_all l k =
-      let whole = take_all i before l in
-      ap₂ ◌++◌
-      (h.kept ∙ ap₂ (λ (xs ys : List K). map low xs ++ ys) whole (drop_all i before l) ∙ append-nil (map low before))
-      (sym (take_all i second k) ∙ h.made ∙ ap (map high) whole)
 
 pub splitting_below : {p : ℕ} {low high : ℕ → ℕ} {before first second : List ℕ} {i : ℕ} → Splitting low high before first second i →
     0 < p → T (all_reduced (modulo p) before) → i < length before → get_or first i 0 < p

@@ -2,10 +2,9 @@
 use Rattle.std.proofs.Common.{◌≡◌, ℕ, ◌^◌, ◌<◌, length, get_or, ap, ◌∙◌, arith}
 use Rattle.std.specs.Iterator.Adapters.{rev_source, enumerate_source}
 use Rattle.std.specs.Slice.Iter.{iter_rest}
-use Rattle.std.proofs.lemmas.List.{nil_from_length}
 use Rattle.circuits.proofs.Steps.{length-gates_of}
 use Rattle.circuits.specs.Views.{gates_seen, size_seen, no_gate}
-use Rattle.rounds.proofs.RowSteps.{passed_none, passed_below, passed_inside, passed_more, passed_all}
+use Rattle.rounds.proofs.RowSteps.{passed_none, passed_below, passed_inside, passed_more}
 use Rattle.rounds.proofs.copies.sum_row.Goals as goal
 
 pub loop-i-init : goal.loop-i-init
@@ -29,8 +28,3 @@ loop-i-preserved g c =
       passed = passed_more passed _ _ step.1.0 _ no_gate c.add_gate-more.result (passed_inside passed _ _ step.1.0 many)
           (c.gate.ensures.value ∙ ap (λ (k : ℕ). get_or gs k no_gate) place) (c.add_gate-more.ensures.values _ passed.sums);
     }
-
-pub returns : goal.returns
-returns g c =
-    let passed = c.loop-i.invariant.passed in
-    record { values = passed_all passed (nil_from_length _ c.in-None.ensures.steps.1.0); below = passed.sums.below }

@@ -1,12 +1,7 @@
 -- Each turn reads a number of the first half as it was at the start, and writes its two parts.
-use Rattle.std.proofs.Common.{◌<◌, ap, ◌∙◌, arith}
-use Rattle.arithmetic.specs.Numbers.{modulo}
-use Rattle.tables.specs.InPlace.{low_part, high_part, split_first}
-use Rattle.tables.proofs.DoublingSteps.{splitting_none, splitting_below, splitting_more, splitting_all}
+use Rattle.std.proofs.Common.{◌<◌, arith}
+use Rattle.tables.proofs.DoublingSteps.{splitting_below, splitting_more}
 use Rattle.tables.proofs.eq.split_first.Goals as goal
-
-pub loop-i-init : goal.loop-i-init
-loop-i-init g c = let N = modulo g.M.Modular.modulus in splitting_none (low_part N c.args.r) (high_part N c.args.r) _ _
 
 pub mul-part-requires : goal.mul-part-requires
 mul-part-requires g c =
@@ -20,7 +15,3 @@ sub-requires g c =
 
 pub loop-i-preserved : goal.loop-i-preserved
 loop-i-preserved g c = splitting_more c.loop-i.invariant 0 c.sub.result c.mul-part.result (omega arith) (omega arith) (cc) c.mul-part.ensures.value
-
-pub returns : goal.returns
-returns g c =
-    splitting_all c.loop-i.invariant (omega arith) (omega arith) ∙ ap (split_first (modulo g.M.Modular.modulus) c.args.r) c.split_at_mut-low.ensures.front

@@ -1,11 +1,8 @@
 -- Each turn is one step of halving, on the live part.
 use Rattle.std.proofs.Common.{◌<◌, refl, arith}
-use Rattle.tables.proofs.HalvingSteps.{halving_none, halving_more, halving_all}
+use Rattle.tables.proofs.HalvingSteps.{halving_more, halving_all}
 use Rattle.tables.proofs.ReducedLists.{reduced_anywhere, reduced_take}
 use Rattle.tables.proofs.halving.mle_at.Goals as goal
-
-pub loop-r-init : goal.loop-r-init
-loop-r-init g c = halving_none g.M.Modular.modulus c.args.table.now c.args.point.now c.requires.length c.requires.reduced
 
 pub fix_first-requires : goal.fix_first-requires
 fix_first-requires g c =
