@@ -1,4 +1,3 @@
-mod LowBits
 mod ScanSteps
 mod HeardLines
 mod LastCoin

@@ -1,6 +1,6 @@
 -- From the machine's steps to what the reader answers of a text.
 -- The number read stands before those of what is left.
-use Rattle.std.proofs.Common.{◌≡◌, ℕ, ◌+◌, ◌<◌, ◌≤◌, List, [], ◌∷◌, ◌++◌, length, get_or, drop, set, Some, None, Ok, Err, Option, sym, refl, ap, ◌∙◌, append_assoc, append-nil, arith, length-drop}
+use Rattle.std.proofs.Common.{◌≡◌, ℕ, ◌+◌, ◌<◌, ◌≤◌, List, [], ◌∷◌, ◌++◌, length, get_or, drop, set, Some, None, Ok, Err, Option, sym, refl, ap, ◌∙◌, append_assoc, arith, length-drop}
 use Rattle.std.specs.Option.{option_map}
 use Rattle.std.proofs.lemmas.List.{drop_all, drop-drop, drop_more, length_push, set_at}
 use Rattle.texts.specs.Answers.{Next}
@@ -49,9 +49,6 @@ pub after_one : (ns : List ℕ) (n : ℕ) (o : Option (List ℕ)) → after (ns 
 after_one ns n None = refl
 after_one ns n (Some ms) = ap (λ (l : List ℕ). Some l) (append_assoc ns (n ∷ []) ms)
 
-pub after-all : (ns : List ℕ) → after ns (Some []) ≡ Some ns
-after-all ns = ap (λ (l : List ℕ). Some l) (append-nil ns)
-
 -- the numbers read stand in the first words, as far as there is room, and the words beyond them are as they were
 pub record Filled (text left room filled : List ℕ) (count : ℕ) : Type 0 where
   pub numbers : List ℕ
@@ -59,15 +56,6 @@ pub record Filled (text left room filled : List ℕ) (count : ℕ) : Type 0 wher
   pub counted : count ≡ length numbers
   pub stand : count ≤ length room → filled ≡ numbers ++ drop count room
   pub apart : count + length left ≤ length text
-
-pub filled_none : (text left room : List ℕ) → left ≡ text → Filled text left room room 0
-filled_none text left room same = record {
-  numbers = [];
-  whole = after_none (numbers_of left) ∙ ap numbers_of same;
-  counted = refl;
-  stand = λ h. refl;
-  apart = omega (arith, ap length same);
-}
 
 pub filled_more : (text left room filled : List ℕ) (count n : ℕ) (left' filled' : List ℕ) → Filled text left room filled count → numbers_of left ≡ with n (numbers_of left') → length left' < length left → (count < length room → filled' ≡ set filled count n) → Filled text left' room filled' (count + 1)
 filled_more text left room filled count n left' filled' so next less put = record {

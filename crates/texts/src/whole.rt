@@ -25,6 +25,7 @@ pub fn read_numbers(heap: Global, text: &[u8]) -> Result<Vec<u32>, TextError>
 pub fn read_into(text: &[u8], room: &mut [u32]) -> Result<usize, TextError>
     ensures { ReadInto text.now room.old result room.new }
 {
+    // what comes after the last place that is lent is counted too
     let mut count = 0;
     for number in Reader::new(text) {
         let number = number?;
