@@ -10,12 +10,12 @@ ghost use Rattle.prover.specs.Provers.{Stands};
 
 use arithmetic::mersenne::Mersenne31;
 use circuits::check_reduced;
+use claims::message::Message;
+use phases::quarters::Tables;
 use programs::answering::is_last;
 use programs::given::{check_given, open_prover};
 use programs::held::{MOST_FIRST_COINS, first_coins};
 use programs::number::coin_heard;
-use claims::message::Message;
-use phases::quarters::Tables;
 use prover::prover::HonestProver;
 use refusals::Refusal;
 use std::process::ExitCode;

@@ -5,10 +5,6 @@ use Rattle.circuits.specs.Views.{layer_seen, layers_seen, inputs_below, places_b
 use Rattle.prover.proofs.LayerBelow.{layers_split, top_limit, begins}
 use Rattle.prover.proofs.prover.HonestProver.at.Goals as goal
 
-pub invariant_of-result-clause-below : goal.invariant_of-result-clause-below
-invariant_of-result-clause-below c =
-    c.first.ensures.below ∙ sym (ap₂ size_below c.rest.ensures.layers c.rest.ensures.inputs)
-
 pub invariant_of-result-clause-limit_size : goal.invariant_of-result-clause-limit_size
 invariant_of-result-clause-limit_size c =
     let ls = c.args.layers in

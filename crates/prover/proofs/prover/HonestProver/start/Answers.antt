@@ -1,13 +1,13 @@
 -- No coin is drawn yet, and the tables are those of all copies' variables.
 use Rattle.std.proofs.Common.{◌≡◌, ℕ, ◌-◌, take, sym, ap, ◌∙◌, arith, pow-add}
 use native.Mathlib.Nat.{sub-zero}
+use Rattle.std.proofs.lemmas.List.{length-take-le}
 use Rattle.arithmetic.specs.Numbers.{modulo, all_reduced}
 use Rattle.arithmetic.proofs.Truth.{T_of_path}
 use Rattle.circuits.specs.Views.{inputs_below}
 use Rattle.circuits.specs.Words.{modulus}
 use Rattle.tables.proofs.ReducedLists.{reduced_take}
 use Rattle.prover.specs.Provers.{claim_held, copies_of}
-use Rattle.fronts.proofs.FrontSteps.{front_length}
 use Rattle.prover.proofs.ProverSteps.{begun, shares_held}
 use Rattle.prover.proofs.prover.HonestProver.start.Goals as goal
 
@@ -20,7 +20,7 @@ pub start_copies-requires-clause-copy : goal.start_copies-requires-clause-copy
 start_copies-requires-clause-copy c =
     let t = c.args.self.now in
     let n = c.start_of_x.result in (
-      front_length (n - 0) n t.copy (sub-zero n) (omega arith) ∙ c.start_of_x.ensures,
+      length-take-le (n - 0) t.copy (omega arith) ∙ sub-zero n ∙ c.start_of_x.ensures,
       reduced_take modulus (n - 0) t.copy (T_of_path (all_reduced (modulo modulus) t.copy) t.copy_reduced),
     )
 
