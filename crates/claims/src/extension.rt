@@ -5,10 +5,8 @@ ghost use Rattle.arithmetic.specs.Numbers.{modulo, all_reduced};
 ghost use Rattle.tables.specs.Multilinear.{mle};
 
 use arithmetic::modular::Modular;
+use circuits::MOST_PLACES;
 use tables::halving::mle_at;
-
-// no table is larger
-pub const MOST_PLACES: usize = 65536;
 
 // In room that is just as long as the table.
 fn extension_in<M: Modular>(room: &mut [u32], values: &[u32], point: &[u32]) -> u32

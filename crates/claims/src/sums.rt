@@ -6,9 +6,10 @@ ghost use Rattle.tables.specs.Multilinear.{mle};
 ghost use Rattle.argument.specs.Claims.{share_sum};
 ghost use Rattle.claims.specs.Shares.{SharesFit, shares_seen};
 
-use crate::extension::{MOST_PLACES, extension_at};
+use crate::extension::extension_at;
 use crate::share::SharesView;
 use arithmetic::modular::Modular;
+use circuits::MOST_PLACES;
 use tables::halving::fix_first;
 
 // Fixes the first variables at a point, and gives how many numbers are then left, at the start of the table.

@@ -2,8 +2,10 @@
 // From one part to the next they are made anew, so that four quarters suffice for the largest layers.
 ghost use Rattle.std.specs.Prelude.{◌≡◌, ◌++◌, length};
 
-// The words of one quarter: room for a layer's values in all copies.
-const QUARTER: usize = 65536;
+use circuits::MOST_PLACES;
+
+// So many words are lent to work in: four quarters, each with room for a layer's values in all copies.
+pub const WORK: usize = 262144;
 
 #[derive(Drop)]
 pub struct Tables<'t> {
@@ -23,9 +25,9 @@ impl<'t> Tables<'t> {
         requires { length work.old ≡ 262144 }
         ensures { (result.v.now ++ result.w.now) ++ (result.h.now ++ result.j.now) ≡ work.old }
     {
-        let (front, back) = work.split_at_mut(2 * QUARTER);
-        let (v, w) = front.split_at_mut(QUARTER);
-        let (h, j) = back.split_at_mut(QUARTER);
+        let (front, back) = work.split_at_mut(2 * MOST_PLACES);
+        let (v, w) = front.split_at_mut(MOST_PLACES);
+        let (h, j) = back.split_at_mut(MOST_PLACES);
         Tables { v, w, h, j }
     }
 }

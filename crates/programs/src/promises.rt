@@ -3,23 +3,17 @@
 ghost use Rattle.programs.specs.Theorems.{BelievedOnlyWhere, HouseSaysHonest, RightOutputsAreBelieved, HouseConvincesJudge};
 
 // `judge` prints `believed` only where the argument is accepted, with the coins of DICE and the answers in the house's lines.
-pub fn judge_stands() -> u8
+pub fn judge_stands()
     ensures { BelievedOnlyWhere }
-{
-    0
-}
+{}
 
 // `house` says what the honest prover answers along the coins.
-pub fn house_stands() -> u8
+pub fn house_stands()
     ensures { HouseSaysHonest }
-{
-    0
-}
+{}
 
 // Right outputs are believed: with the honest answers for lines, and where the two programs talk with each other.
-pub fn right_outputs_stand() -> u8
+pub fn right_outputs_stand()
     ensures answered { RightOutputsAreBelieved }
     ensures talked { HouseConvincesJudge }
-{
-    0
-}
+{}

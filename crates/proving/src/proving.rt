@@ -11,12 +11,9 @@ use crate::speaking::answer_all;
 use arithmetic::mersenne::Mersenne31;
 use circuits::{CircuitView, check_circuit, check_reduced};
 use judging::checks::{check_lengths, first_coins};
-use phases::quarters::Tables;
+use phases::quarters::{Tables, WORK};
 use prover::prover::HonestProver;
 use refusals::Refusal;
-
-// so many words are lent to work in: four tables
-const WORK: usize = 262144;
 
 fn check_rooms(
     circuit: CircuitView,

@@ -11,10 +11,9 @@ ghost use Rattle.claims.specs.Shares.{SharesFit, shares_seen};
 use super::Wiring;
 use super::gather::gather;
 use super::weights::weigh;
-use crate::extension::MOST_PLACES;
 use crate::share::SharesView;
 use arithmetic::modular::Modular;
-use circuits::{LayerView, power};
+use circuits::{LayerView, MOST_PLACES, power};
 use tables::eq::eq_table;
 
 // In room for the two tables of eq.

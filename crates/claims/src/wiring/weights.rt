@@ -6,9 +6,9 @@ ghost use Rattle.tables.specs.Multilinear.{eq_poly, bits_of};
 ghost use Rattle.claims.specs.Shares.{SharesFit, shares_seen};
 ghost use Rattle.claims.specs.Sums.{share_weight};
 
-use crate::extension::MOST_PLACES;
 use crate::share::SharesView;
 use arithmetic::modular::Modular;
+use circuits::MOST_PLACES;
 use tables::eq::eq_table_scaled;
 
 fn add_tables<M: Modular>(table: &mut [u32], other: &[u32])
