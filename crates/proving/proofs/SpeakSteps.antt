@@ -1,7 +1,7 @@
 -- The answers along coins, one more with each coin, and what the prover still has to say.
 -- Where the coins end, so do the words of the room.
 use Rattle.std.proofs.Common.{◌≡◌, ℕ, zero, suc, ◌+◌, ◌<◌, Bool, cond, T, List, [], ◌∷◌, ◌++◌, length, get_or, take, sym, refl, ap, ◌∙◌, subst, ap₂, append_assoc, append-nil, add-zero, zero-add, arith}
-use Rattle.std.proofs.lemmas.List.{take_more, take_all}
+use Rattle.std.proofs.lemmas.List.{take_more, take_all, get_or_append_left}
 use Rattle.std.proofs.lemmas.Bool.{le-ltb}
 use Rattle.arithmetic.specs.Numbers.{modulo, all_reduced}
 use Rattle.argument.specs.Sumcheck.{Prover}
@@ -71,6 +71,10 @@ module _ (first : HonestProver) (coins : List ℕ) (i : ℕ) (t : HonestProver) 
   spoken_all last full =
       let whole : take at' room' ≡ room' = take_all at' room' (omega arith) in
       (sym whole ∙ more_words ∙ ap (λ (n : ℕ). answers_along n (speaks first) 0 coins) last, subst (λ (l : List ℕ). T (all_reduced (modulo modulus) l)) whole more_reduced)
+
+-- the coins before the last one are the first coins
+pub before_last : (coins before : List ℕ) (last i : ℕ) → coins ≡ before ++ (last ∷ []) → i < length before → get_or coins i 0 ≡ get_or before i 0
+before_last coins before last i split inside = ap (λ (xs : List ℕ). get_or xs i 0) split ∙ get_or_append_left before (last ∷ []) 0 i inside
 
 no_words : (copies inputs : ℕ) (ls : List Layer) → layer_coins copies ls inputs ≡ 0 → layer_words copies ls inputs ≡ 0
 unfolding layer_coins layer_words

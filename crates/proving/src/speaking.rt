@@ -11,7 +11,8 @@ use claims::message::Message;
 use phases::quarters::Tables;
 use prover::prover::HonestProver;
 
-// Writes a message at a place of the room, and gives the place after it.
+// Writes a message at a place of the room, and gives the place after it. It is no plainer to hand on the rest of the
+// room: a `&mut` that each turn makes anew needs a clause on what is left behind each.
 fn write(message: Message, room: &mut [u32], at: usize) -> usize
     requires { at + length (numbers_of message) ≤ length room.old }
     ensures place { result ≡ at + length (numbers_of message) }

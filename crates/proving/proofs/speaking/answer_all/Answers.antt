@@ -1,11 +1,10 @@
 -- Each turn writes one answer and takes the coin after it.
-use Rattle.std.proofs.Common.{◌≡◌, ℕ, ◌<◌, get_or, sym, ap, ◌∙◌, subst, arith}
-use Rattle.std.proofs.lemmas.List.{get_or_append_left}
+use Rattle.std.proofs.Common.{◌≡◌, ℕ, ◌<◌, sym, subst, arith}
 use Rattle.arithmetic.proofs.Newton.{reduced_at}
 use Rattle.circuits.specs.Words.{modulus}
 use Rattle.claims.specs.Messages.{numbers_of}
 use Rattle.prover.specs.Provers.{Heard, coins_left}
-use Rattle.proving.proofs.SpeakSteps.{spoken_none, spoken_more, spoken_all, last_words}
+use Rattle.proving.proofs.SpeakSteps.{before_last, spoken_none, spoken_more, spoken_all, last_words}
 use Rattle.proving.proofs.speaking.answer_all.Goals as goal
 
 pub loop-coin-init : goal.loop-coin-init
@@ -15,16 +14,14 @@ pub hear-requires-clause-coin : goal.hear-requires-clause-coin
 hear-requires-clause-coin c =
     let i = c.loop-coin.coin-index in
     let split = c.in-Some.ensures.cases in
-    let same : get_or c.args.coins.now i 0 ≡ get_or c.in-Some.before.now i 0 =
-    ap (λ xs. get_or xs i 0) split.0 ∙ get_or_append_left c.in-Some.before.now _ 0 i (omega arith) in
+    let same = before_last c.args.coins.now c.in-Some.before.now _ i split.0 (omega arith) in
     subst (λ (n : ℕ). n < modulus) same (reduced_at modulus c.args.coins.now c.requires.coins i (omega (arith, split.1)))
 
 pub loop-coin-preserved : goal.loop-coin-preserved
 loop-coin-preserved c =
     let i = c.loop-coin.coin-index in
     let split = c.in-Some.ensures.cases in
-    let same : get_or c.args.coins.now i 0 ≡ get_or c.in-Some.before.now i 0 =
-    ap (λ xs. get_or xs i 0) split.0 ∙ get_or_append_left c.in-Some.before.now _ 0 i (omega arith) in (
+    let same = before_last c.args.coins.now c.in-Some.before.now _ i split.0 (omega arith) in (
       c.hear.ensures.stands,
       spoken_more c.args.prover c.args.coins.now i c.loop-coin.prover c.loop-coin.room c.write-at.new.room c.loop-coin.at c.write-at.result
           (numbers_of c.say.result) c.loop-coin.invariant.1 c.say.ensures.answer c.say.ensures.reduced c.write-at.ensures.place c.write-at.ensures.words
