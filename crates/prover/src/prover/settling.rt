@@ -8,6 +8,7 @@ use arithmetic::mersenne::Mersenne31;
 use phases::quarters::Tables;
 
 impl<'a> HonestProver<'a> {
+    // By where x begins, and not by what is due: a part with no variables begins too, and is never due.
     fn settle_left(&mut self, tables: &mut Tables)
         requires { Stands 1 1 self.old tables.old }
         ensures alike { Alike self.old self.new }
