@@ -1,5 +1,5 @@
--- What an array of zeros holds after some numbers were copied to its start.
--- The part stands at the start, and all of it is reduced.
+-- Parts of an array's numbers, and an array in which one number is set: each is reduced as the array is.
+-- Stated by paths, as the structs' own fields are.
 use Rattle.std.proofs.Common.{◌≡◌, ℕ, zero, suc, ◌<◌, true, ltb, List, [], ◌∷◌, ◌++◌, take, drop, set}
 use Rattle.std.proofs.lemmas.Bool.{lt-ltb, and_parts, and_from}
 use Rattle.arithmetic.specs.Numbers.{modulo, all_reduced}

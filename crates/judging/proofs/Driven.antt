@@ -1,7 +1,7 @@
 -- How the parts of a transcript join: one step more, a step that does not fit, and one part after another.
 -- All of it unfolds the machine's run by one step at a time.
-use Rattle.std.proofs.Common.{◌≡◌, ℕ, zero, suc, ◌+◌, ◌-◌, ◌*◌, ◌<◌, Bool, true, false, cond, List, [], ◌∷◌, ◌++◌, length, get_or, take, drop, sym, refl, ap, ◌∙◌, subst, ap₂, arith}
-use Rattle.std.proofs.lemmas.List.{append_assoc, take_more, drop_more, take-append-drop, take_all, drop-drop, length_push}
+use Rattle.std.proofs.Common.{◌≡◌, ℕ, zero, suc, ◌+◌, ◌-◌, ◌*◌, ◌<◌, ◌≤◌, Bool, true, false, cond, List, [], ◌∷◌, ◌++◌, length, get_or, take, drop, sym, refl, ap, ◌∙◌, ap₂, arith, length-drop}
+use Rattle.std.proofs.lemmas.List.{append_assoc, take_at, drop_at, take_more, drop_more, take-append-drop, drop-drop, length_push}
 use Rattle.argument.specs.Transcript.{fours}
 use Rattle.verdicts.specs.declared.verdict.Verdict.{Verdict}
 use Rattle.verdicts.specs.Machine.{Stand, variables_of, fits, next, doubt, resume}
@@ -126,11 +126,55 @@ hearing_ends {vs} {s} {ws} {coins} {i} {t} h a v l ea fit ev rest later =
     (sym (take-append-drop i coins) ∙ ap (λ (ys : List ℕ). take i coins ++ ys) (drop_more coins i 0 l)) ∙
     ends_there vs s t (fours i ws) others (take i coins) (drop (i + 1) coins) a (get_or coins i 0) v h.leads fit ev rest later
 
-pub hearing_all : {vs : List ℕ} {s : Stand ℕ} {ws coins : List ℕ} {i : ℕ} {t : Stand ℕ} → Hearing vs s ws coins i t → i ≡ length coins →
-    Leads vs s (fours (length coins) ws) coins t × AtVariable s t (length coins)
-hearing_all {vs} {s} {ws} {coins} {i} {t} h e = (
-  λ rest later.
-      ap₂ (λ (n : ℕ) (ys : List ℕ). resume numbers vs s (fours n ws ++ rest) (ys ++ later)) (sym e) (sym (take_all i coins (omega arith))) ∙
-      h.leads rest later,
-  subst (λ (n : ℕ). AtVariable s t n) e h.at,
-)
+-- the same along the fours of the words and the coins that are left
+pub record Passing (vs : List ℕ) (s : Stand ℕ) (ws coins : List ℕ) (size : ℕ) (words_left coins_left : List ℕ) (t : Stand ℕ) : Type 0 where
+  pub done : ℕ
+  pub heard : Hearing vs s ws coins done t
+  pub within : done ≤ length coins
+  pub four : size ≡ 4
+  pub words : words_left ≡ drop (4 * done) ws
+  pub coins_are : coins_left ≡ drop done coins
+
+pub passing_none : (vs : List ℕ) (s : Stand ℕ) (ws coins : List ℕ) (size : ℕ) (words_left coins_left : List ℕ) → length s.point ≡ 0 → size ≡ 4 →
+    words_left ≡ ws → coins_left ≡ coins → Passing vs s ws coins size words_left coins_left s
+passing_none vs s ws coins size words_left coins_left e four ew ec =
+    record { done = 0; heard = hearing_none vs s ws coins e; within = omega arith; four = four; words = ew; coins_are = ec }
+
+-- one four and one coin, each at its place
+pub record Taken (ws coins : List ℕ) (i : ℕ) (a : List ℕ) (r : ℕ) : Type 0 where
+  pub inside : i < length coins
+  pub said : a ≡ take 4 (drop (4 * i) ws)
+  pub word : r ≡ get_or coins i 0
+
+module _ {vs : List ℕ} {s : Stand ℕ} {ws coins : List ℕ} {size : ℕ} {words_left coins_left : List ℕ} {t : Stand ℕ}
+    (h : Passing vs s ws coins size words_left coins_left t) (a words_later coins_later : List ℕ) (r : ℕ) (ew : words_left ≡ a ++ words_later)
+    (el : length a ≡ size) (ec : coins_left ≡ r ∷ coins_later) where
+  pub passing_taken : Taken ws coins h.done a r
+  passing_taken =
+      let i = h.done in
+      let inside : i < length coins = omega (arith, ap length ec, ap length h.coins_are, length-drop i coins) in
+      record {
+        inside = inside;
+        said = sym (take_at a words_later 4 (el ∙ h.four)) ∙ ap (take 4) (sym ew ∙ h.words);
+        word = ap (λ (xs : List ℕ). get_or xs 0 0) (sym ec ∙ h.coins_are ∙ drop_more coins i 0 inside);
+      }
+
+  pub passing_more : (u : Stand ℕ) (size' : ℕ) → size' ≡ size → length coins ≡ variables_of s → fits numbers t a ≡ true → u ≡ next numbers t a r →
+      Passing vs s ws coins size' words_later coins_later u
+  passing_more u size' es e fit eu =
+      let i = h.done in
+      let taken = passing_taken in
+      let later : 4 * i + 4 ≡ 4 * (i + 1) = omega arith in
+      record {
+        done = i + 1;
+        heard = hearing_more h.heard u a taken.inside e taken.said fit (eu ∙ ap (next numbers t a) taken.word);
+        within = omega (arith, taken.inside);
+        four = es ∙ h.four;
+        words =
+            sym (drop_at a words_later 4 (el ∙ h.four)) ∙ ap (drop 4) (sym ew ∙ h.words) ∙ drop-drop 4 (4 * i) ws ∙
+            ap (λ (n : ℕ). drop n ws) later;
+        coins_are = ap (drop 1) (sym ec ∙ h.coins_are) ∙ drop-drop 1 i coins;
+      }
+
+  pub passing_ends : (v : Verdict) → fits numbers t a ≡ false → v ≡ doubt t → Ends vs s (fours (length coins) ws) coins v
+  passing_ends v fit ev = hearing_ends h.heard a v passing_taken.inside passing_taken.said fit ev

@@ -2,8 +2,11 @@
 -- The answers of the layers are cut out of the words one layer after the other.
 use Rattle.std.proofs.Common.{◌≡◌, ℕ, zero, suc, ◌+◌, ◌-◌, ◌*◌, ◌<◌, ◌≤◌, Bool, true, false, eqb, List, [], ◌∷◌, ◌++◌, length, get_or, take, drop, sym, refl, ap, ◌∙◌, subst, ap₂, arith, length-drop}
 use Rattle.std.proofs.lemmas.Bool.{eqb-true, false≢true}
-use Rattle.std.proofs.lemmas.List.{append_assoc, take-take, take_more, take_all, take-append-drop, drop-take, drop-drop, length-take-le, nil_from_length}
+use Rattle.std.proofs.lemmas.List.{append_assoc, take-take, take_more, take_all, take-append-drop, drop-take, length-take-le, nil_from_length}
+use Rattle.arithmetic.specs.Numbers.{all_reduced}
 use Rattle.circuits.specs.Circuit.{Layer}
+use Rattle.circuits.specs.Words.{modulus}
+use Rattle.claims.proofs.Cutting.{reduced_rest}
 use Rattle.argument.specs.Argument.{layer_coins}
 use Rattle.argument.specs.Transcript.{fours, answers_of, layer_words}
 use Rattle.verdicts.specs.declared.verdict.Verdict.{Verdict}
@@ -118,19 +121,17 @@ layers_left (l ∷ ls) b e h = omega arith
 pub no_layers_left : (ls : List Layer) (b : Bool) → b ≡ eqb (length ls) 0 → b ≡ true → length ls ≡ 0
 no_layers_left ls b e h = eqb-true (length ls) 0 (sym e ∙ h)
 
-pub record Walking (vs : List ℕ) (s : Stand ℕ) (ws coins : List ℕ) (said drawn : ℕ) (t : Stand ℕ) : Type 0 where
-  pub resumed : resume numbers vs t (answers_from t (drop said ws)) (drop drawn coins) ≡ resume numbers vs s (answers_from s ws) coins
-  pub words : said + words_from t ≡ length ws
-  pub coins_to_come : drawn + coins_from t ≡ length coins
+-- the words and coins that are left lead from t to the verdict that all of them lead to from s
+pub record Walking (vs : List ℕ) (s : Stand ℕ) (ws coins said drawn : List ℕ) (t : Stand ℕ) : Type 0 where
+  pub resumed : resume numbers vs t (answers_from t said) drawn ≡ resume numbers vs s (answers_from s ws) coins
+  pub words : length said ≡ words_from t
+  pub coins_to_come : length drawn ≡ coins_from t
+  pub reduced : all_reduced numbers drawn ≡ true
   pub fresh : length t.point ≡ 0
 
-pub walking_none : (vs : List ℕ) (s : Stand ℕ) (ws coins : List ℕ) → length s.point ≡ 0 → length ws ≡ words_from s → length coins ≡ coins_from s →
-    Walking vs s ws coins 0 0 s
-walking_none vs s ws coins e ew ec = record { resumed = refl; words = omega (arith, ew); coins_to_come = omega (arith, ec); fresh = e }
-
 -- the words and coins of this layer are there
-pub walking_room : {vs : List ℕ} {s : Stand ℕ} {ws coins : List ℕ} {said drawn : ℕ} {t : Stand ℕ} → Walking vs s ws coins said drawn t →
-    0 < length t.layers → (said + 4 * variables_of t + 2 ≤ length ws) × (drawn + variables_of t + 1 ≤ length coins)
+pub walking_room : {vs : List ℕ} {s : Stand ℕ} {ws coins said drawn : List ℕ} {t : Stand ℕ} → Walking vs s ws coins said drawn t →
+    0 < length t.layers → (4 * variables_of t + 2 ≤ length said) × (variables_of t + 1 ≤ length drawn)
 walking_room {vs} {s} {ws} {coins} {said} {drawn} {t} h some = (
   omega (arith, words_some t.copies t.inputs t.layers some, h.words),
   omega (arith, coins_some t.copies t.inputs t.layers some, h.coins_to_come),
@@ -149,73 +150,55 @@ split_answers t ws some =
     sym (append_assoc (fours v (take (4 * v + 2) ws)) (take 2 (drop (4 * v) (take (4 * v + 2) ws)) ∷ []) rest)
 
 -- the rest of the answers, from the stand below on
-answers_below : (t u : Stand ℕ) (n said : ℕ) (ws : List ℕ) → Below t u →
-    answers_of t.copies (drop 1 t.layers) t.inputs (drop n (drop said ws)) ≡ answers_from u (drop (said + n) ws)
-answers_below t u n said ws below =
-    sym (λ i. answers_of (below.copies i) (below.layers i) (below.inputs i) (drop n (drop said ws))) ∙
-    ap (answers_from u) (drop-drop n said ws)
+answers_below : (t u : Stand ℕ) (ws : List ℕ) → Below t u → answers_of t.copies (drop 1 t.layers) t.inputs ws ≡ answers_from u ws
+answers_below t u ws below = sym (λ i. answers_of (below.copies i) (below.layers i) (below.inputs i) ws)
 
-module _ {vs : List ℕ} {s : Stand ℕ} {ws coins : List ℕ} {said drawn : ℕ} {t : Stand ℕ} (h : Walking vs s ws coins said drawn t)
-    (some : 0 < length t.layers) where
+module _ {vs : List ℕ} {s : Stand ℕ} {ws coins said drawn : List ℕ} {t : Stand ℕ} (h : Walking vs s ws coins said drawn t)
+    (some : 0 < length t.layers) (part words_left cs coins_left : List ℕ) (ep : part ≡ take (4 * variables_of t + 2) said)
+    (ew : words_left ≡ drop (4 * variables_of t + 2) said) (ec : cs ≡ take (variables_of t + 1) drawn)
+    (ed : coins_left ≡ drop (variables_of t + 1) drawn) where
   -- the run from t on, with the layer's part in front
-  in_parts : (u : Stand ℕ) → Below t u →
-      let n = 4 * variables_of t + 2 in
-      let m = variables_of t + 1 in
-      resume numbers vs t (layer_answers t (take n (drop said ws)) ++ answers_from u (drop (said + n) ws))
-      (take m (drop drawn coins) ++ drop (drawn + m) coins) ≡
+  in_parts :
+      resume numbers vs t (layer_answers t part ++ answers_of t.copies (drop 1 t.layers) t.inputs words_left) (cs ++ coins_left) ≡
       resume numbers vs s (answers_from s ws) coins
-  in_parts u below =
+  in_parts =
       let n = 4 * variables_of t + 2 in
       let m = variables_of t + 1 in
       ap₂ (resume numbers vs t)
-      (ap (λ (xs : List (List ℕ)). layer_answers t (take n (drop said ws)) ++ xs) (sym (answers_below t u n said ws below)) ∙
-      sym (split_answers t (drop said ws) some))
-      (ap (λ (ys : List ℕ). take m (drop drawn coins) ++ ys) (sym (drop-drop m drawn coins)) ∙ take-append-drop m (drop drawn coins)) ∙
+      (ap₂ (λ (xs ys : List ℕ). layer_answers t xs ++ answers_of t.copies (drop 1 t.layers) t.inputs ys) ep ew ∙
+      sym (split_answers t said some))
+      (ap₂ (λ (xs ys : List ℕ). xs ++ ys) ec ed ∙ take-append-drop m drawn) ∙
       h.resumed
 
-  pub walking_more : (u : Stand ℕ) (said' drawn' : ℕ) (part cs : List ℕ) →
-      said' ≡ said + (4 * variables_of t + 2) → drawn' ≡ drawn + (variables_of t + 1) →
-      part ≡ take (4 * variables_of t + 2) (drop said ws) → cs ≡ take (variables_of t + 1) (drop drawn coins) →
-      Leads vs t (layer_answers t part) cs u → Below t u → Walking vs s ws coins said' drawn' u
-  walking_more u said' drawn' part cs es ed ep ec leads below =
+  pub walking_more : (u : Stand ℕ) → Leads vs t (layer_answers t part) cs u → Below t u → Walking vs s ws coins words_left coins_left u
+  walking_more u leads below =
       let n = 4 * variables_of t + 2 in
       let m = variables_of t + 1 in
       record {
         resumed =
-            sym (leads (answers_from u (drop said' ws)) (drop drawn' coins)) ∙
-            ap₂ (λ (k l : ℕ). resume numbers vs t (layer_answers t part ++ answers_from u (drop k ws)) (cs ++ drop l coins)) es ed ∙
-            ap₂ (λ (xs ys : List ℕ). resume numbers vs t (layer_answers t xs ++ answers_from u (drop (said + n) ws)) (ys ++ drop (drawn + m) coins)) ep ec ∙
-            in_parts u below;
+            sym (leads (answers_from u words_left) coins_left) ∙
+            ap (λ (xs : List (List ℕ)). resume numbers vs t (layer_answers t part ++ xs) (cs ++ coins_left)) (sym (answers_below t u words_left below)) ∙
+            in_parts;
         words =
             let left : words_from u ≡ layer_words t.copies (drop 1 t.layers) t.inputs =
             λ i. layer_words (below.copies i) (below.layers i) (below.inputs i)
             in
-            omega (arith, es, left, words_some t.copies t.inputs t.layers some, h.words);
+            omega (arith, ap length ew, length-drop n said, left, words_some t.copies t.inputs t.layers some, h.words);
         coins_to_come =
             let left : coins_from u ≡ layer_coins t.copies (drop 1 t.layers) t.inputs =
             λ i. layer_coins (below.copies i) (below.layers i) (below.inputs i)
             in
-            omega (arith, ed, left, coins_some t.copies t.inputs t.layers some, h.coins_to_come);
+            omega (arith, ap length ed, length-drop m drawn, left, coins_some t.copies t.inputs t.layers some, h.coins_to_come);
+        reduced = subst (λ (xs : List ℕ). all_reduced numbers xs ≡ true) (sym ed) (reduced_rest modulus m drawn h.reduced);
         fresh = below.fresh;
       }
 
-  pub walking_ends : (part cs : List ℕ) (v : Verdict) → part ≡ take (4 * variables_of t + 2) (drop said ws) →
-      cs ≡ take (variables_of t + 1) (drop drawn coins) → Ends vs t (layer_answers t part) cs v →
-      resume numbers vs s (answers_from s ws) coins ≡ v
-  walking_ends part cs v ep ec ends =
-      let n = 4 * variables_of t + 2 in
-      let m = variables_of t + 1 in
-      let rest = answers_of t.copies (drop 1 t.layers) t.inputs (drop n (drop said ws)) in
-      sym h.resumed ∙
-      ap₂ (resume numbers vs t) (split_answers t (drop said ws) some) (sym (take-append-drop m (drop drawn coins))) ∙
-      ap₂ (λ (xs ys : List ℕ). resume numbers vs t (layer_answers t xs ++ rest) (ys ++ drop m (drop drawn coins))) (sym ep) (sym ec) ∙
-      ends rest (drop m (drop drawn coins))
+  pub walking_ends : (v : Verdict) → Ends vs t (layer_answers t part) cs v → resume numbers vs s (answers_from s ws) coins ≡ v
+  walking_ends v ends = sym in_parts ∙ ends (answers_of t.copies (drop 1 t.layers) t.inputs words_left) coins_left
 
-pub walking_all : {vs : List ℕ} {s : Stand ℕ} {ws coins : List ℕ} {said drawn : ℕ} {t : Stand ℕ} → Walking vs s ws coins said drawn t →
+pub walking_all : {vs : List ℕ} {s : Stand ℕ} {ws coins said drawn : List ℕ} {t : Stand ℕ} → Walking vs s ws coins said drawn t →
     length t.layers ≡ 0 → resume numbers vs s (answers_from s ws) coins ≡ settled numbers vs t
 unfolding resume
 walking_all {vs} {s} {ws} {coins} {said} {drawn} {t} h none =
-    let empty : drop drawn coins ≡ [] =
-    nil_from_length (drop drawn coins) (omega (arith, length-drop drawn coins, h.coins_to_come, coins_none t.copies t.inputs t.layers none))
-    in
-    sym h.resumed ∙ ap (resume numbers vs t (answers_from t (drop said ws))) empty
+    let empty : drawn ≡ [] = nil_from_length drawn (omega (arith, h.coins_to_come, coins_none t.copies t.inputs t.layers none)) in
+    sym h.resumed ∙ ap (resume numbers vs t (answers_from t said)) empty

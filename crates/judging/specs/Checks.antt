@@ -5,8 +5,11 @@ use Rattle.arithmetic.specs.Numbers.{all_reduced}
 use Rattle.circuits.specs.Circuit.{Circuit, output_size}
 use Rattle.circuits.specs.Words.{circuit_of, is_circuit}
 use Rattle.argument.specs.Argument.{coins_of}
-use Rattle.argument.specs.Transcript.{answers_of, answer_words}
+use Rattle.argument.specs.Transcript.{answers_of, answer_words, judged}
+use Rattle.verdicts.specs.declared.verdict.Verdict.{Verdict}
+use Rattle.verdicts.specs.Machine.{verdict}
 use Rattle.claims.specs.Meaning.{numbers}
+use Rattle.judging.specs.declared.call.Transcript.{Transcript}
 
 -- as many inputs and outputs as the circuit has
 abbrev pub counts_fit : Circuit → ℕ → ℕ → Bool
@@ -28,3 +31,15 @@ pub record Checked (cs vs claimed messages coins : List ℕ) : Type 0 where
   pub claimed_reduced : all_reduced numbers claimed ≡ true
   pub messages_reduced : all_reduced numbers messages ≡ true
   pub coins_reduced : all_reduced numbers coins ≡ true
+
+-- the same of a call's words, what is answered to them, and the verdict over them
+abbrev pub checked : Transcript → Type 0
+checked t = Checked t.circuit.now t.inputs.now t.claimed.now t.messages.now t.coins.now
+
+abbrev pub judged_so : Transcript → ℕ
+judged_so t = judged t.circuit.now t.inputs.now t.claimed.now t.messages.now t.coins.now
+
+abbrev pub verdict_so : Transcript → Verdict
+verdict_so t =
+    let c = circuit_of t.circuit.now in
+    verdict numbers c t.inputs.now t.claimed.now (answers_in c t.messages.now) t.coins.now

@@ -2,13 +2,15 @@
 // The refusals come in the order of their numbers.
 ghost use Rattle.std.specs.Prelude.{◌≡◌, ◌≤◌, length, MatchResult};
 ghost use Rattle.refusals.specs.Refusals.{RefusedUnless, number_of};
-ghost use Rattle.circuits.specs.Views.{circuit_seen, layers_seen, copies_above, inputs_below};
-ghost use Rattle.argument.specs.Argument.{first_coins, layer_coins};
-ghost use Rattle.argument.specs.Transcript.{layer_words, judged};
-ghost use Rattle.judging.specs.Checks.{lengths_fit, Checked};
+ghost use Rattle.circuits.specs.Views.{words_seen, circuit_seen, layers_seen, copies_above, inputs_below};
+ghost use Rattle.argument.specs.Argument.{layer_coins};
+ghost use Rattle.argument.specs.Transcript.{layer_words};
+ghost use Rattle.judging.specs.Checks.{lengths_fit, checked, judged_so};
 
+use crate::call::Transcript;
 use arithmetic::mersenne::Mersenne31;
 use circuits::{CircuitView, LayersView, check_circuit, check_counts, check_reduced};
+pub use claims::opening::first_coins;
 use refusals::Refusal;
 
 // How many words the answers take for some layers, and how many coins fall for them.
@@ -27,6 +29,7 @@ fn measure(layers: LayersView) -> Lengths
     let mut rest = layers;
     let mut words = 0;
     let mut coins = 0;
+    // the views have no iterator over layers, and a counter of turns would only stand beside the views
     while rest.count() > 0 {
         let below = rest.rest();
         let variables = below.copies() as usize + 2 * below.top_size() as usize;
@@ -35,15 +38,6 @@ fn measure(layers: LayersView) -> Lengths
         rest = below;
     }
     Lengths { words, coins }
-}
-
-// How many coins choose the outputs' point.
-pub fn first_coins(circuit: CircuitView) -> usize
-    ensures value { result ≡ first_coins (circuit_seen circuit.entry) }
-    ensures limit { result ≤ 16 }
-{
-    let layers = circuit.layers();
-    layers.copies() as usize + layers.top_size() as usize
 }
 
 pub fn check_lengths(circuit: CircuitView, words: usize, coins: usize) -> Result<(), Refusal>
@@ -57,21 +51,19 @@ pub fn check_lengths(circuit: CircuitView, words: usize, coins: usize) -> Result
     }
 }
 
-pub fn check_all(
-    circuit: &[u32],
-    inputs: &[u32],
-    claimed: &[u32],
-    messages: &[u32],
-    coins: &[u32],
-) -> Result<(), Refusal>
-    ensures { MatchResult result (λ _. Checked circuit.now inputs.now claimed.now messages.now coins.now) (λ e. number_of e ≡ judged circuit.now inputs.now claimed.now messages.now coins.now) }
-{
-    check_circuit(circuit)?;
-    let view = CircuitView::new(circuit);
-    check_counts(view, inputs.len(), claimed.len())?;
-    check_lengths(view, messages.len(), coins.len())?;
-    check_reduced::<Mersenne31>(inputs)?;
-    check_reduced::<Mersenne31>(claimed)?;
-    check_reduced::<Mersenne31>(messages)?;
-    check_reduced::<Mersenne31>(coins)
+impl<'a> Transcript<'a> {
+    // The circuit, or the first refusal that applies before anything is judged.
+    pub fn check(self) -> Result<CircuitView<'a>, Refusal>
+        ensures { MatchResult result (λ view. (words_seen view ≡ self.entry.circuit.now) × checked self.entry) (λ e. number_of e ≡ judged_so self.entry) }
+    {
+        check_circuit(self.circuit)?;
+        let view = CircuitView::new(self.circuit);
+        check_counts(view, self.inputs.len(), self.claimed.len())?;
+        check_lengths(view, self.messages.len(), self.coins.len())?;
+        check_reduced::<Mersenne31>(self.inputs)?;
+        check_reduced::<Mersenne31>(self.claimed)?;
+        check_reduced::<Mersenne31>(self.messages)?;
+        check_reduced::<Mersenne31>(self.coins)?;
+        Ok(view)
+    }
 }

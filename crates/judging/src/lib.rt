@@ -2,6 +2,7 @@
 // One piece of code judges, whether words lie side by side or come one by one.
 #![tactic(auto)]
 
+pub mod call;
 pub mod checks;
 pub mod judge;
 mod transcript;

@@ -19,16 +19,12 @@ fn hear(verifier: &mut Verifier, said: &[u32], word: u32) -> Result<(), Verdict>
     ensures step { MatchResult result (λ _. (fits field (stand_of verifier.old) said.now ≡ true) × (stand_of verifier.new ≡ next field (stand_of verifier.old) said.now word)) (λ v. (fits field (stand_of verifier.old) said.now ≡ false) × (v ≡ doubt (stand_of verifier.old))) }
     ensures inputs { inputs_of verifier.new ≡ inputs_of verifier.old }
 {
-    match verifier.read(said) {
-        Err(verdict) => Err(verdict),
-        Ok(answer) => match answer.coin(word) {
-            Ok(coin) => {
-                verifier.step(coin);
-                Ok(())
-            }
-            Err(_) => unreachable(),
-        },
-    }
+    let answer = verifier.read(said)?;
+    let Ok(coin) = answer.coin(word) else {
+        unreachable()
+    };
+    verifier.step(coin);
+    Ok(())
 }
 
 // The answers and coins of a layer's variables.
@@ -40,8 +36,8 @@ fn hear_variables(verifier: &mut Verifier, said: &[u32], coins: &[u32]) -> Resul
     ensures heard { MatchResult result (λ _. Leads (inputs_of verifier.old) (stand_of verifier.old) (fours (length coins.now) said.now) coins.now (stand_of verifier.new) × AtVariable (stand_of verifier.old) (stand_of verifier.new) (length coins.now)) (λ v. Ends (inputs_of verifier.old) (stand_of verifier.old) (fours (length coins.now) said.now) coins.now v) }
     ensures inputs { inputs_of verifier.new ≡ inputs_of verifier.old }
 {
-    for i in 0..coins.len() {
-        hear(verifier, &said[4 * i..4 * i + 4], coins[i])?;
+    for (four, coin) in said.chunks_exact(4).zip(coins) {
+        hear(verifier, four, *coin)?;
     }
     Ok(())
 }
@@ -56,9 +52,9 @@ fn hear_layer(verifier: &mut Verifier, said: &[u32], coins: &[u32]) -> Result<()
     ensures inputs { inputs_of verifier.new ≡ inputs_of verifier.old }
 {
     let variables = verifier.variables();
-    let values = 4 * variables;
-    hear_variables(verifier, &said[0..values], &coins[0..variables])?;
-    hear(verifier, &said[values..values + 2], coins[variables])
+    let (rounds, values) = said.split_at(4 * variables);
+    hear_variables(verifier, rounds, &coins[0..variables])?;
+    hear(verifier, values, coins[variables])
 }
 
 // Layer by layer down to the inputs.
@@ -69,19 +65,15 @@ fn hear_layers(verifier: &mut Verifier, messages: &[u32], coins: &[u32]) -> Resu
     ensures heard { MatchResult result (λ _. (length (stand_of verifier.new).layers ≡ 0) × (resume field (inputs_of verifier.old) (stand_of verifier.old) (answers_from (stand_of verifier.old) messages.now) coins.now ≡ settled field (inputs_of verifier.old) (stand_of verifier.new))) (λ v. resume field (inputs_of verifier.old) (stand_of verifier.old) (answers_from (stand_of verifier.old) messages.now) coins.now ≡ v) }
     ensures inputs { inputs_of verifier.new ≡ inputs_of verifier.old }
 {
-    let mut said = 0;
-    let mut drawn = 0;
+    let mut said = messages;
+    let mut drawn = coins;
     while !verifier.at_inputs() {
         let variables = verifier.variables();
-        let said_end = said + 4 * variables + 2;
-        let drawn_end = drawn + variables + 1;
-        hear_layer(
-            verifier,
-            &messages[said..said_end],
-            &coins[drawn..drawn_end],
-        )?;
-        said = said_end;
-        drawn = drawn_end;
+        let (layer_said, said_below) = said.split_at(4 * variables + 2);
+        let (layer_drawn, drawn_below) = drawn.split_at(variables + 1);
+        hear_layer(verifier, layer_said, layer_drawn)?;
+        said = said_below;
+        drawn = drawn_below;
     }
     Ok(())
 }

@@ -2,7 +2,7 @@
 // The file stdout has the table as it must be.
 #![tactic(auto)]
 
-mod refusals;
+mod refused;
 mod table;
 
 use crate::table::{
@@ -97,8 +97,8 @@ fn main(rt: HostRuntime) -> io::Result<()> {
     product(&rt)?;
     layered(&rt)?;
     at_the_inputs(&rt)?;
-    refusals::counts(&rt)?;
-    refusals::numbers(&rt)?;
-    refusals::unreduced(&rt)?;
-    refusals::two_at_once(&rt)
+    refused::counts(&rt)?;
+    refused::numbers(&rt)?;
+    refused::unreduced(&rt)?;
+    refused::two_at_once(&rt)
 }

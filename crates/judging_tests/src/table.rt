@@ -1,6 +1,7 @@
 // The circuits of the table with honest answers for them, and one row: what is answered, and where it stops believing.
 // The honest answers were worked out apart from this code.
-use judging::judge::{Judge, VerifierJudge, examine};
+use judging::call::Transcript;
+use judging::judge::{Judge, VerifierJudge};
 use refusals::Refusal;
 use std::io;
 use verdicts::verdict::{Place, Verdict};
@@ -55,5 +56,12 @@ pub fn row(
 ) -> io::Result<()> {
     let answer = VerifierJudge::judge(circuit, inputs, claimed, messages, coins);
     print!(rt; "{name}: {answer}, ")?;
-    tell(rt, examine(circuit, inputs, claimed, messages, coins))
+    let transcript = Transcript {
+        circuit,
+        inputs,
+        claimed,
+        messages,
+        coins,
+    };
+    tell(rt, transcript.examine())
 }

@@ -1,12 +1,9 @@
--- The three parts of a whole point, where it stands at the start of the verifier's array.
--- When all variables have their coins, each part is a part of the array.
-use Rattle.std.proofs.Common.{◌≡◌, ℕ, ◌+◌, ◌-◌, ◌*◌, ◌<◌, ◌≤◌, List, [], ◌∷◌, length, get_or, take, drop, sym, refl, ap, ◌∙◌, ap₂, arith}
+-- How many variables a layer has, where all of their coins have fallen, and parts of a list.
+-- With no layer left, what lies below is the inputs.
+use Rattle.std.proofs.Common.{◌≡◌, ℕ, ◌+◌, ◌-◌, ◌*◌, ◌<◌, ◌≤◌, List, [], ◌∷◌, length, take, drop, refl, ap, ◌∙◌, arith}
 use Rattle.std.proofs.lemmas.List.{take-take, drop-take}
-use Rattle.arithmetic.specs.Numbers.{Numbers}
 use Rattle.circuits.specs.Circuit.{Layer, size_below}
-use Rattle.circuits.specs.Views.{no_layer}
-use Rattle.argument.specs.Claims.{Claim, expected}
-use Rattle.verdicts.specs.Machine.{Stand, stand_at, variables, variables_of, size_under, expected_of}
+use Rattle.verdicts.specs.Machine.{variables, variables_of, size_under}
 use Rattle.verifier.specs.declared.verifier.Verifier.{Verifier}
 use Rattle.verifier.specs.Meaning.{stand_of}
 

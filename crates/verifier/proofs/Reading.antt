@@ -1,12 +1,10 @@
--- Numbers that are said: that they are well formed, and what follows for each of them.
--- A check that let them pass says that they are reduced.
-use Rattle.std.proofs.Common.{◌≡◌, ℕ, ◌<◌, Bool, true, eqb, List, length, get_or, is_ok, Ok, Err, Result, sym, subst, arith}
-use Rattle.std.proofs.lemmas.Bool.{and_from, and_parts, eq-eqb, eqb-true, false≢true}
+-- Numbers that are said and well formed are reduced, each of them.
+-- Their count is looked at first.
+use Rattle.std.proofs.Common.{◌≡◌, ℕ, ◌<◌, true, eqb, List, length, get_or, sym, subst, arith}
+use Rattle.std.proofs.lemmas.Bool.{and_parts, eqb-true}
 use Rattle.arithmetic.specs.Numbers.{all_reduced}
 use Rattle.arithmetic.proofs.Newton.{reduced_at}
 use Rattle.arithmetic.proofs.Truth.{T_of_path}
-use Rattle.refusals.specs.declared.Refusal.{Refusal}
-use Rattle.refusals.specs.Refusals.{RefusedUnless}
 use Rattle.circuits.specs.Words.{modulus}
 use Rattle.argument.specs.Sumcheck.{well_formed}
 use Rattle.claims.specs.Meaning.{numbers}

@@ -1,5 +1,5 @@
 -- The views of the shares are cut to the inputs' size, as no layer is left.
-use Rattle.std.proofs.Common.{◌≡◌, ℕ, ◌+◌, ◌-◌, ◌^◌, ◌≤◌, List, length, take, sym, ap, ◌∙◌, subst, ap₂, arith, rules}
+use Rattle.std.proofs.Common.{◌≡◌, ℕ, ◌+◌, ◌-◌, ◌^◌, ◌≤◌, List, length, take, sym, ap, ◌∙◌, ap₂, arith, rules}
 use Rattle.arithmetic.proofs.Truth.{T_of_path}
 use Rattle.circuits.specs.Circuit.{size_below}
 use Rattle.circuits.specs.Words.{modulus}
@@ -8,7 +8,7 @@ use Rattle.argument.specs.Claims.{Share, share_sum}
 use Rattle.verdicts.proofs.Stepping.{settled_so, settled-not}
 use Rattle.claims.specs.Meaning.{numbers, shares_meant}
 use Rattle.claims.specs.declared.share.SharesView.{SharesView}
-use Rattle.claims.specs.Shares.{shares_seen, SharesFit}
+use Rattle.claims.specs.Shares.{shares_seen}
 use Rattle.claims.proofs.PointParts.{part_reduced, part_length}
 use Rattle.verifier.specs.declared.verifier.Verifier.{Verifier}
 use Rattle.verifier.specs.Meaning.{stand_of, inputs_of}
