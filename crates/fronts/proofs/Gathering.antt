@@ -3,7 +3,7 @@
 use Rattle.std.proofs.Common.{◌≡◌, ℕ, zero, suc, ◌+◌, ◌*◌, ◌%◌, ◌<◌, ◌≤◌, T, ltb, List, [], ◌∷◌, ◌++◌, map, length, get_or, take, drop, set, sym, refl, ap, ◌∙◌, subst, ap₂, le_of_suc-le-suc, not-suc-le-zero, add-zero, mod-lt, mod-eq_of_lt, suc-ne-zero, arith, lt→ltb}
 use native.Mathlib.Nat.{suc_inj}
 use Rattle.std.proofs.lemmas.List.Edits.{map_over_more}
-use Rattle.std.proofs.lemmas.List.{append-nil, drop_more, drop_all, drop-drop, drop-set-lt, get_or-drop, get_or_default, set-get_or, take_all}
+use Rattle.std.proofs.lemmas.List.{drop_more, drop_all, drop-drop, drop-set-lt, get_or-drop, get_or_default, set-get_or}
 use Rattle.arithmetic.specs.Numbers.{Numbers, modulo, all_reduced}
 use Rattle.arithmetic.proofs.Newton.{reduced_at}
 use Rattle.arithmetic.proofs.Truth.{and_left, and_right, and_both}
@@ -167,9 +167,3 @@ scaled_more p factor positive xs i table scaled h k x e =
           ∙ map_over_more f xs table i (get_or table i 0) h scaled.words (get_or_default table i 0 (get_or table i 0) k);
       reduced = reduced_set p table i x scaled.reduced small;
     }
-
-pub scaled_all : (p factor : ℕ) (xs : List ℕ) (i : ℕ) (table : List ℕ) → Scaled p factor xs i table → length xs ≤ i →
-    table ≡ map (λ x. (modulo p).mul x factor) xs
-scaled_all p factor xs i table scaled h =
-    let f : ℕ → ℕ = λ x. (modulo p).mul x factor in
-    scaled.words ∙ ap₂ (λ a b. map f a ++ b) (take_all i xs h) (drop_all i xs h) ∙ append-nil (map f xs)

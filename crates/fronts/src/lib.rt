@@ -2,5 +2,4 @@
 // Each takes one pass over a table or over the gates.
 #![tactic(auto)]
 
-pub mod fronts;
 pub mod gather;

@@ -1,7 +1,7 @@
 -- What the tables give as an answer, and what they stand for after a coin, for the numbers modulo p.
 -- A coin fixes the first variable that is left in each of them.
 use Rattle.std.proofs.Common.{◌≡◌, ℕ, suc, ◌*◌, ◌^◌, ◌<◌, T, List, [], ◌∷◌, ◌++◌, take, sym, refl, ap, ◌∙◌, ap₂, append_assoc}
-use Rattle.arithmetic.specs.Numbers.{Numbers, modulo, all_reduced}
+use Rattle.arithmetic.specs.Numbers.{modulo, all_reduced}
 use Rattle.arithmetic.proofs.Modulo.{ring_modulo}
 use Rattle.tables.specs.Multilinear.{fix_first, mle, eq_poly, sum_corners}
 use Rattle.circuits.specs.Circuit.{Layer}

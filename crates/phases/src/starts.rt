@@ -51,6 +51,7 @@ impl<'t> Tables<'t> {
         let gates = power(layer.size());
         let below = power(layer.size_below());
         let factor = self.h[0];
+        // only read; as `&`, what v holds afterwards would not be known
         let values = &mut self.v[0..below];
         let weights = &mut self.w[0..gates];
         let h = &mut self.h[0..below];

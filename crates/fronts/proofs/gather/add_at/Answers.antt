@@ -1,5 +1,4 @@
 -- The number at the place is below the modulus, and so is the one that takes its stead.
-use Rattle.std.proofs.Common.{set, ap}
 use Rattle.arithmetic.proofs.Newton.{reduced_at}
 use Rattle.fronts.proofs.Gathering.{reduced_set}
 use Rattle.fronts.proofs.gather.add_at.Goals as goal
@@ -7,10 +6,5 @@ use Rattle.fronts.proofs.gather.add_at.Goals as goal
 pub add-requires : goal.add-requires
 add-requires g c = (reduced_at g.M.Modular.modulus c.args.table.now c.requires.reduced c.args.place c.requires.place, c.requires.number)
 
-pub returns : goal.returns
-returns g c =
-    let xs = c.args.table.now in
-    record {
-      table = ap (set xs c.args.place) c.add.ensures.value;
-      reduced = reduced_set g.M.Modular.modulus xs c.args.place c.add.result c.requires.reduced c.add.ensures.below;
-    }
+pub returns-clause-reduced : goal.returns-clause-reduced
+returns-clause-reduced g c = reduced_set g.M.Modular.modulus c.args.table.now c.args.place c.add.result c.requires.reduced c.add.ensures.below

@@ -1,26 +1,16 @@
 -- Each turn passes one gate, whose places are there.
-use Rattle.std.proofs.Common.{◌≡◌, ◌^◌, ◌<◌, length, refl, arith}
+use Rattle.std.proofs.Common.{◌≡◌, ◌^◌, ◌<◌, length, arith}
 use Rattle.arithmetic.proofs.Newton.{reduced_at}
 use Rattle.circuits.proofs.Steps.{length-gates_of}
 use Rattle.circuits.specs.Views.{gates_seen, size_seen}
 use Rattle.fronts.proofs.Gathering.{passed_more, passed_all}
 use Rattle.fronts.proofs.gather.gather.Goals as goal
 
-pub loop-i-init : goal.loop-i-init
-loop-i-init g c =
-    record {
-      h = record { leads = λ place other picks. refl; reduced = c.requires.reduced.0 };
-      j = record { leads = λ place other picks. refl; reduced = c.requires.reduced.1 };
-    }
-
 pub add_gate-requires-clause-below : goal.add_gate-requires-clause-below
 add_gate-requires-clause-below g c = (
   reduced_at g.M.Modular.modulus c.args.weights.now c.requires.given c.loop-i.i (omega arith),
   (c.requires.picked c.gate-gate.result c.pick-place.result (c.gate-gate.ensures.left, c.gate-gate.ensures.right) c.pick-place.ensures).1,
 )
-
-pub add_gate-requires-clause-reduced : goal.add_gate-requires-clause-reduced
-add_gate-requires-clause-reduced g c = (c.loop-i.invariant.h.reduced, c.loop-i.invariant.j.reduced)
 
 pub loop-i-preserved : goal.loop-i-preserved
 loop-i-preserved g c =
@@ -36,12 +26,12 @@ loop-i-preserved g c =
           c.add_gate.new.j c.add_gate.ensures.j c.add_gate.ensures.j_reduced;
     }
 
-pub returns : goal.returns
-returns g c =
+pub returns-clause-h : goal.returns-clause-h
+returns-clause-h g c place other picks =
     let whole : length (gates_seen c.args.layer) ≡ 2 ^ size_seen c.args.layer = length-gates_of _ _ in
-    record {
-      h = λ place other picks. passed_all _ _ _ _ _ _ _ _ _ c.loop-i.invariant.h (omega arith) place other picks;
-      j = λ place other picks. passed_all _ _ _ _ _ _ _ _ _ c.loop-i.invariant.j (omega arith) place other picks;
-      h_reduced = c.loop-i.invariant.h.reduced;
-      j_reduced = c.loop-i.invariant.j.reduced;
-    }
+    passed_all _ _ _ _ _ _ _ _ _ c.loop-i.invariant.h (omega arith) place other picks
+
+pub returns-clause-j : goal.returns-clause-j
+returns-clause-j g c place other picks =
+    let whole : length (gates_seen c.args.layer) ≡ 2 ^ size_seen c.args.layer = length-gates_of _ _ in
+    passed_all _ _ _ _ _ _ _ _ _ c.loop-i.invariant.j (omega arith) place other picks

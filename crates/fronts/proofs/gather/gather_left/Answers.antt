@@ -12,15 +12,12 @@ gather-requires-clause-picked g c gate r within call =
     let value : r.1 ≡ get_or c.args.values.now gate.right 0 = search rules in
     (omega arith, subst (λ (x : ℕ). x < p) (sym value) (reduced_at p c.args.values.now c.requires.given.1 gate.right (omega arith)))
 
-pub returns : goal.returns
-returns g c =
-    let p = g.M.Modular.modulus in
-    let v = c.args.values.now in
-    let gs = gates_seen c.args.layer in
-    let ws = c.args.weights.now in
-    record {
-      h = c.gather.ensures.h (λ x. x.left) (λ x. get_or v x.right 0) (λ gate r within call. search rules) ∙ left_h p v gs ws c.args.h.now;
-      j = c.gather.ensures.j (λ x. x.left) (λ x. get_or v x.right 0) (λ gate r within call. search rules) ∙ left_j p v gs ws c.args.j.now;
-      h_reduced = c.gather.ensures.h_reduced;
-      j_reduced = c.gather.ensures.j_reduced;
-    }
+pub returns-clause-h : goal.returns-clause-h
+returns-clause-h g c =
+    c.gather.ensures.h (λ x. x.left) (λ x. get_or c.args.values.now x.right 0) (λ gate r within call. search rules)
+    ∙ left_h g.M.Modular.modulus c.args.values.now (gates_seen c.args.layer) c.args.weights.now c.args.h.now
+
+pub returns-clause-j : goal.returns-clause-j
+returns-clause-j g c =
+    c.gather.ensures.j (λ x. x.left) (λ x. get_or c.args.values.now x.right 0) (λ gate r within call. search rules)
+    ∙ left_j g.M.Modular.modulus c.args.values.now (gates_seen c.args.layer) c.args.weights.now c.args.j.now

@@ -1,11 +1,8 @@
 -- Each turn scales one number.
-use Rattle.std.proofs.Common.{◌<◌, refl, arith}
+use Rattle.std.proofs.Common.{◌<◌, arith}
 use Rattle.arithmetic.proofs.Newton.{reduced_at}
-use Rattle.fronts.proofs.Gathering.{scaled_more, scaled_all}
+use Rattle.fronts.proofs.Gathering.{scaled_more}
 use Rattle.fronts.proofs.gather.scale.Goals as goal
-
-pub loop-x-init : goal.loop-x-init
-loop-x-init g c = record { words = refl; reduced = c.requires.reduced }
 
 pub mul-requires : goal.mul-requires
 mul-requires g c =
@@ -17,10 +14,3 @@ loop-x-preserved g c =
     let positive : 0 < p = omega (arith, g.met.M.Modular.above) in
     scaled_more p c.args.factor positive c.args.table.now c.loop-x.x-index c.loop-x.table c.loop-x.invariant (omega arith) (omega arith)
     c.mul.result c.mul.ensures.value
-
-pub returns : goal.returns
-returns g c =
-    record {
-      table = scaled_all g.M.Modular.modulus c.args.factor c.args.table.now c.loop-x.x-index c.loop-x.table c.loop-x.invariant (omega arith);
-      reduced = c.loop-x.invariant.reduced;
-    }

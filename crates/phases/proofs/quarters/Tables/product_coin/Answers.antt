@@ -1,24 +1,8 @@
 -- Each of the three tables is halved.
-use Rattle.std.proofs.Common.{◌-◌, ◌<◌, sym, ◌∙◌, arith}
+use Rattle.std.proofs.Common.{◌-◌, ◌<◌, ◌∙◌, arith}
 use native.Mathlib.Nat.{sub-zero}
-use Rattle.phases.proofs.StartsRead.{reduced_end}
 use Rattle.phases.proofs.TurnSteps.{fixed_by}
 use Rattle.phases.proofs.quarters.Tables.product_coin.Goals as goal
-
-pub fix_first-requires-clause-reduced : goal.fix_first-requires-clause-reduced
-fix_first-requires-clause-reduced g c =
-    let n = c.power-count.result in
-    reduced_end g.M.Modular.modulus _ (n - 0) c.args.self.now.v.now (sym (sub-zero n ∙ c.power-count.ensures.value)) c.requires.fronts.front_v
-
-pub fix_first-requires-2-clause-reduced : goal.fix_first-requires-2-clause-reduced
-fix_first-requires-2-clause-reduced g c =
-    let n = c.power-count.result in
-    reduced_end g.M.Modular.modulus _ (n - 0) c.args.self.now.h.now (sym (sub-zero n ∙ c.power-count.ensures.value)) c.requires.fronts.front_h
-
-pub fix_first-requires-3-clause-reduced : goal.fix_first-requires-3-clause-reduced
-fix_first-requires-3-clause-reduced g c =
-    let n = c.power-count.result in
-    reduced_end g.M.Modular.modulus _ (n - 0) c.args.self.now.j.now (sym (sub-zero n ∙ c.power-count.ensures.value)) c.requires.fronts.front_j
 
 pub returns-clause-v : goal.returns-clause-v
 returns-clause-v g c =

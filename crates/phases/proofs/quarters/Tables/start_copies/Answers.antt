@@ -13,12 +13,12 @@ use Rattle.tables.proofs.ReducedLists.{reduced_from}
 use Rattle.phases.proofs.StartsRead.{copies_read, layer_weighed}
 use Rattle.phases.proofs.quarters.Tables.start_copies.Goals as goal
 
-pub eq_table-requires : goal.eq_table-requires
-eq_table-requires g c =
+pub eq_table-requires-clause-room : goal.eq_table-requires-clause-room
+eq_table-requires-clause-room g c =
     let rest = c.args.rest in
     let limit = (layers_parts rest.copies rest.inputs rest.count rest.words.now rest.lawful).limit in
     let few : length c.args.copy.now ≤ 16 = omega arith in
-    record { room = omega (arith, pow_at_most (length c.args.copy.now) few); point_reduced = c.requires.copy.1 }
+    omega (arith, pow_at_most (length c.args.copy.now) few)
 
 pub returns-clause-tables : goal.returns-clause-tables
 returns-clause-tables g c k copy shares =
