@@ -1,14 +1,18 @@
 -- The gates that some words hold, taken off one by one from the front or from the back.
 -- An iterator over the gates of a layer takes a step by these.
-use Rattle.std.proofs.Common.{◌≡◌, ℕ, zero, suc, ◌+◌, ◌-◌, ◌*◌, ◌/◌, ◌<◌, ◌≤◌, List, [], ◌∷◌, ◌++◌, length, take, drop, sym, refl, ap, ◌∙◌, ap₂, subst, ◌^◌, reverse, get_or, arith}
-use Rattle.std.proofs.lemmas.List.{drop-drop, get_or-take, reverse-append}
-use Rattle.std.proofs.lemmas.Iterator.{YieldsList}
+use Rattle.std.proofs.Common.{◌≡◌, ℕ, zero, suc, ◌+◌, ◌-◌, ◌*◌, ◌/◌, ◌<◌, ◌≤◌, List, [], ◌∷◌, ◌++◌, length, take, drop, sym, refl, ap, ◌∙◌, ap₂, subst, ◌^◌, reverse, get_or, ◌⊎◌, inl, inr, Option, Some, None, Bor, Iter, length-drop, arith}
+use Rattle.std.proofs.iter.Yields.{fronts}
+use Rattle.std.proofs.lemmas.List.{drop-drop, get_or-drop, get_or-take, reverse-append}
+use Rattle.std.proofs.lemmas.Iterator.{YieldsList, zips}
 use Rattle.std.proofs.lemmas.Iterator.Consumers.{YieldsList-from_first, YieldsList-from_shown}
-use Rattle.std.specs.Iterator.{YieldsFirstBy, YieldsLastBy}
-use Rattle.std.specs.Iterator.Adapters.{rev_source, rev_steps}
+use Rattle.std.specs.Iterator.{Yields, YieldsFirstBy, YieldsLastBy}
+use Rattle.std.specs.Iterator.Adapters.{rev_source, rev_steps, zip_first, zip_second}
+use Rattle.std.specs.Slice.Iter.{iter_rest}
+use Rattle.std.specs.declared.iter.Zip.{Zip}
 use Rattle.std.specs.declared.iter.Rev.{Rev}
 use Rattle.circuits.specs.Circuit.{Gate}
-use Rattle.circuits.specs.Views.{gate_meant, gates_left, gates_seen, places_below}
+use Rattle.circuits.specs.Views.{gate_meant, gates_left, gates_seen, places_below, no_gate}
+use Rattle.circuits.specs.declared.gate.Gate as code
 use Rattle.circuits.specs.declared.view.Gates.{Gates}
 use Rattle.circuits.specs.declared.view.LayerView.{LayerView}
 use Rattle.circuits.specs.Words.{gates_of}
@@ -67,3 +71,51 @@ YieldsList-from_rev_gates {s} gs e =
 -- a gate of a layer takes places that are there
 pub gate_within : (v : LayerView) (i : ℕ) (d : Gate) → i < length (gates_seen v) → Within (2 ^ places_below v) (get_or (gates_seen v) i d)
 gate_within v i d h = gate_fits (2 ^ places_below v) (gates_seen v) i d (layer_parts v.size v.below v.words.now v.lawful).fits h
+
+-- ---- a loop over a layer's gates beside a slice of numbers, which has passed the pairs xs
+abbrev pub beside : Zip Gates (Iter ℕ) → Option (code.Gate × Bor ℕ) → Zip Gates (Iter ℕ) → Type 0
+beside = zips (YieldsFirstBy gate_meant gates_left) fronts
+
+beside_more : (s t : Zip Gates (Iter ℕ)) (r : Option (code.Gate × Bor ℕ)) (p : code.Gate × Bor ℕ) → r ≡ Some p → beside s r t →
+    (gates_left (zip_first s) ≡ gate_meant p.0 ∷ gates_left (zip_first t)) × (iter_rest (zip_second s) ≡ p.1.now ∷ iter_rest (zip_second t))
+beside_more s t r p e h = subst (λ o. beside s o t) e h
+
+passed : (xs : List (code.Gate × Bor ℕ)) (s t : Zip Gates (Iter ℕ)) → Yields beside s xs t →
+    (gates_left (zip_first t) ≡ drop (length xs) (gates_left (zip_first s))) × (iter_rest (zip_second t) ≡ drop (length xs) (iter_rest (zip_second s)))
+passed [] s t y = (ap (λ z. gates_left (zip_first z)) (sym y), ap (λ z. iter_rest (zip_second z)) (sym y))
+passed (x ∷ xs) s t y =
+    let k = passed xs y.0 t y.2 in
+    (k.0 ∙ sym (ap (drop (suc (length xs))) y.1.0), k.1 ∙ sym (ap (drop (suc (length xs))) y.1.1))
+
+module _ (v : LayerView) (ws : List ℕ) (xs : List (code.Gate × Bor ℕ)) (s t u : Zip Gates (Iter ℕ)) (r : Option (code.Gate × Bor ℕ))
+    (first : gates_left (zip_first s) ≡ gates_seen v) (second : iter_rest (zip_second s) ≡ ws) (y : Yields beside s xs t) where
+  gates_next : gates_left (zip_first t) ≡ drop (length xs) (gates_seen v)
+  gates_next = (passed xs s t y).0 ∙ ap (drop (length xs)) first
+
+  numbers_next : iter_rest (zip_second t) ≡ drop (length xs) ws
+  numbers_next = (passed xs s t y).1 ∙ ap (drop (length xs)) second
+
+  -- the next pair is the gate at its place, which takes places that are there, and the number beside it
+  pub gates_turn : (p : code.Gate × Bor ℕ) → r ≡ Some p → beside t r u →
+      (length xs < length (gates_seen v)) × (length xs < length ws) × (gate_meant p.0 ≡ get_or (gates_seen v) (length xs) no_gate)
+      × (p.1.now ≡ get_or ws (length xs) 0) × Within (2 ^ places_below v) (gate_meant p.0)
+  gates_turn p e h =
+      let k = beside_more t u r p e h in
+      let n = length xs in
+      let none : n + 0 ≡ n = omega arith in
+      let a : gate_meant p.0 ∷ gates_left (zip_first u) ≡ drop n (gates_seen v) = sym k.0 ∙ gates_next in
+      let b : p.1.now ∷ iter_rest (zip_second u) ≡ drop n ws = sym k.1 ∙ numbers_next in
+      let i : n < length (gates_seen v) = omega (arith, ap length a, length-drop n (gates_seen v)) in
+      let j : n < length ws = omega (arith, ap length b, length-drop n ws) in
+      let g : gate_meant p.0 ≡ get_or (gates_seen v) n no_gate =
+      ap (λ l. get_or l 0 no_gate) a ∙ get_or-drop n (gates_seen v) 0 no_gate ∙ ap (λ m. get_or (gates_seen v) m no_gate) none in
+      let w : p.1.now ≡ get_or ws n 0 = ap (λ l. get_or l 0 0) b ∙ get_or-drop n ws 0 0 ∙ ap (λ m. get_or ws m 0) none in
+      (i, j, g, w, subst (Within (2 ^ places_below v)) (sym g) (gate_within v n no_gate i))
+
+  -- where there are as many numbers as gates, the last turn is that of the last gate
+  pub gates_end : length ws ≡ length (gates_seen v) → r ≡ None → beside t r u → length (gates_seen v) ≤ length xs
+  gates_end same e h = by (subst (λ o. beside t o u) e h)
+    where
+      by : ((k : Gates) × YieldsFirstBy gate_meant gates_left (zip_first t) None k) ⊎ ((k : Iter ℕ) × fronts (zip_second t) None k) → length (gates_seen v) ≤ length xs
+      by (inl a) = omega (arith, ap length (sym a.1.0 ∙ gates_next), length-drop (length xs) (gates_seen v))
+      by (inr b) = omega (arith, b.1.0, ap length numbers_next, length-drop (length xs) ws, same)

@@ -15,4 +15,4 @@ pub use examples::examples_stand;
 pub use gate::{Gate, Kind, UnknownKind};
 pub use limits::MOST_PLACES;
 pub use shape::power;
-pub use view::{CircuitView, Gates, LayerView, LayersView, check_circuit};
+pub use view::{CircuitView, Gates, LayerView, LayersView};

@@ -8,8 +8,6 @@ mod circuit;
 mod layer;
 mod layers;
 
-pub use circuit::check_circuit;
-
 #[derive(Clone, Copy)]
 pub struct CircuitView<'a> {
     words: &'a [u32],

@@ -68,13 +68,13 @@ pub fn work_out<M: Modular>(
     requires room { (65536 ≤ length values.old) × (65536 ≤ length spare.old) }
     ensures { take (2 ^ copies_above layers.entry * 2 ^ size_below (layers_seen layers.entry) (inputs_below layers.entry)) values.new ≡ all_values (modulo M.modulus) (layers_seen layers.entry) (2 ^ inputs_below layers.entry) (2 ^ copies_above layers.entry) inputs.now }
 {
-    if layers.count() == 0 {
-        values[0..inputs.len()].copy_from_slice(inputs);
-    } else {
-        let rest = layers.rest();
-        work_out::<M>(rest, inputs, spare, values);
-        let below = &spare[0..rest.value_count()];
-        let made = layers.value_count();
-        layer_values::<M>(layers.first(), layers.copies(), below, &mut values[0..made]);
+    match layers.split_first() {
+        None => values[0..inputs.len()].copy_from_slice(inputs),
+        Some((first, rest)) => {
+            work_out::<M>(rest, inputs, spare, values);
+            let below = &spare[0..rest.value_count()];
+            let made = layers.value_count();
+            layer_values::<M>(first, layers.copies(), below, &mut values[0..made]);
+        }
     }
 }

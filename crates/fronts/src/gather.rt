@@ -66,8 +66,7 @@ fn gather<M: Modular, F: Fn(Gate) -> (usize, u32)>(
     ensures h_reduced { T (all_reduced (modulo M.modulus) h.new) }
     ensures j_reduced { T (all_reduced (modulo M.modulus) j.new) }
 {
-    for (i, weight) in weights.iter().enumerate() {
-        let gate = layer.gate(i);
+    for (gate, weight) in layer.gates().zip(weights) {
         let (place, other) = pick(gate);
         add_gate::<M>(gate.kind, place, *weight, other, h, j);
     }

@@ -9,7 +9,7 @@ ghost use Rattle.judging.specs.Checks.{lengths_fit, checked, judged_so};
 
 use crate::call::Transcript;
 use arithmetic::mersenne::Mersenne31;
-use circuits::{CircuitView, LayersView, check_circuit, check_counts, check_reduced};
+use circuits::{CircuitView, LayersView, check_counts, check_reduced};
 pub use claims::opening::first_coins;
 use refusals::Refusal;
 
@@ -54,8 +54,7 @@ impl<'a> Transcript<'a> {
     pub fn check(self) -> Result<CircuitView<'a>, Refusal>
         ensures { MatchResult result (λ view. (words_seen view ≡ self.entry.circuit.now) × checked self.entry) (λ e. number_of e ≡ judged_so self.entry) }
     {
-        check_circuit(self.circuit)?;
-        let view = CircuitView::new(self.circuit);
+        let view = CircuitView::check(self.circuit)?;
         check_counts(view, self.inputs.len(), self.claimed.len())?;
         check_lengths(view, self.messages.len(), self.coins.len())?;
         check_reduced::<Mersenne31>(self.inputs)?;

@@ -2,7 +2,7 @@
 -- At the end the four sums are the round's values.
 use Rattle.std.proofs.Common.{◌≡◌, ℕ, zero, suc, ◌+◌, ◌*◌, ◌/◌, ◌^◌, ◌<◌, ◌≤◌, true, ◌&&◌, T, ltb, List, [], ◌∷◌, ◌++◌, length, get_or, take, drop, sym, refl, ap, append_assoc, append-nil, length-append, ◌∙◌, subst, ap₂, zero-mul, arith, pow-add}
 use native.Mathlib.Nat.{two-pow-succ}
-use Rattle.std.proofs.lemmas.List.{drop_more, get_or_at}
+use Rattle.std.proofs.lemmas.List.{drop_more, get_or_at, length-take-le, take_at, take_more}
 use Rattle.std.proofs.lemmas.Bool.{and_parts, ltb-true}
 use Rattle.arithmetic.specs.Numbers.{modulo, all_reduced}
 use Rattle.arithmetic.proofs.Modulo.{ring_modulo}
@@ -44,6 +44,21 @@ module _ {p : ℕ} {gs : List Gate} {ws low high left s : List ℕ} (h : RowPass
   pub passed_inside : length gs ≡ length ws → length left-after < length gs
   passed_inside e = omega (arith, ap length parts-after, length-append left-after (w ∷ h.done))
 
+  -- the gates that are left stand beside the weights that are left
+  pub gate_last : (G G' : List Gate) (g d : Gate) → length gs ≡ length ws → G ≡ take (length left) gs → G ≡ G' ++ (g ∷ []) →
+      (G' ≡ take (length left-after) gs) × (g ≡ get_or gs (length left-after) d)
+  gate_last G G' g d e beside last =
+      let n = length left-after in
+      let inside : n < length gs = passed_inside e in
+      let more : length left ≡ n + 1 = ap length next ∙ length-append left-after (w ∷ []) in
+      let same : G' ++ (g ∷ []) ≡ take n gs ++ (get_or gs n d ∷ []) = sym last ∙ beside ∙ ap (λ k. take k gs) more ∙ take_more gs n d inside in
+      let long : length (take n gs) ≡ n = length-take-le n gs (omega (arith, inside)) in
+      let short : length G' ≡ n =
+      omega (arith, ap length same, length-append G' (g ∷ []), length-append (take n gs) (get_or gs n d ∷ []), long) in (
+        sym (take_at G' (g ∷ []) n short) ∙ ap (take n) same ∙ take_at (take n gs) (get_or gs n d ∷ []) n long,
+        sym (get_or_at G' g [] d n short) ∙ ap (λ l. get_or l n d) same ∙ get_or_at (take n gs) (get_or gs n d) [] d n long,
+      )
+
   pub passed_below : T (all_reduced (modulo p) ws) → w < p
   passed_below t =
       subst (λ (x : ℕ). x < p)
@@ -69,6 +84,19 @@ module _ {p : ℕ} {gs : List Gate} {ws low high left s : List ℕ} (h : RowPass
       same t =
           ap₂ (λ (x : Gate) (n : ℕ). (modulo p).add ((modulo p).mul w (gate_on_line (modulo p) x low high t)) (row_sum (modulo p) (drop n gs) h.done low high t)) e longer
           ∙ sym (ap (λ (l : List Gate). row_sum (modulo p) l (w ∷ h.done) low high t) (drop_more gs k d inside))
+
+-- where no gate is left, no weight is either
+pub gates_done : {p : ℕ} {gs : List Gate} {ws low high left s : List ℕ} → RowPassed p gs ws low high left s → (G : List Gate) → length gs ≡ length ws →
+    G ≡ take (length left) gs → length G ≡ 0 → length left ≡ 0
+gates_done {gs = gs} {left = left} h G e beside none =
+    let all : length left ≤ length gs = omega (arith, e, ap length h.parts, length-append left h.done) in
+    omega (arith, none, ap length beside, length-take-le (length left) gs all)
+
+pub passed_all : {p : ℕ} {gs : List Gate} {ws low high left s : List ℕ} → RowPassed p gs ws low high left s → left ≡ [] → FourOf p (row_sum (modulo p) gs ws low high) s
+passed_all {p} {gs} {ws} {low} {high} {left} {s} h end =
+    four_same p _ _ s
+    (λ t. ap₂ (λ (n : ℕ) (l : List ℕ). row_sum (modulo p) (drop n gs) l low high t) (ap length end) (sym (h.parts ∙ ap (λ (l : List ℕ). l ++ h.done) end)))
+    h.sums
 
 -- rows from the first to the last: one more at the end
 rows_last : (p : ℕ) → 1 < p → (m : ℕ) (gs : List Gate) (ws : List ℕ) (half : ℕ) (e v : List ℕ) (i n j t : ℕ) → i + n ≡ j →

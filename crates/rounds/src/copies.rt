@@ -59,9 +59,9 @@ fn sum_row<M: Modular>(layer: LayerView, weights: &[u32], low: &[u32], high: &[u
     ensures below { T (all_reduced (modulo M.modulus) result) }
 {
     let mut sums = [0; 4];
-    for (i, weight) in weights.iter().enumerate().rev() {
+    for (gate, weight) in layer.gates().rev().zip(weights.iter().rev()) {
         // No proof is made of a call whose array goes straight into a variable that is there.
-        let more = add_gate::<M>(layer.gate(i), *weight, low, high, sums);
+        let more = add_gate::<M>(gate, *weight, low, high, sums);
         sums = more;
     }
     sums

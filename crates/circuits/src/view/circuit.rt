@@ -1,6 +1,6 @@
 // The whole circuit: its numbers, and its layers from the outputs' one down.
 // A check of the words is the only way to a view of one.
-ghost use Rattle.std.specs.Prelude.{◌≡◌, ◌+◌, ◌^◌, ◌≤◌, true, IfOk};
+ghost use Rattle.std.specs.Prelude.{◌≡◌, ◌+◌, ◌^◌, ◌≤◌, IfOk};
 ghost use Rattle.circuits.specs.Circuit.{output_size};
 ghost use Rattle.refusals.specs.Refusals.{RefusedUnless};
 ghost use Rattle.circuits.specs.Views.{words_seen, circuit_seen, layers_seen, copies_above, inputs_below};
@@ -32,14 +32,6 @@ fn is_circuit(words: &[u32]) -> bool
     }
 }
 
-// Refuses all words but those of a lawful circuit.
-pub fn check_circuit(words: &[u32]) -> Result<(), Refusal>
-    ensures { RefusedUnless (is_circuit words.now) Refusal.NoCircuit result }
-{
-    CircuitView::check(words)?;
-    Ok(())
-}
-
 impl<'a> CircuitView<'a> {
     // Of the words of a lawful circuit; all others are refused.
     pub fn check(words: &'a [u32]) -> Result<CircuitView<'a>, Refusal>
@@ -47,18 +39,10 @@ impl<'a> CircuitView<'a> {
         ensures seen { IfOk result (λ view. words_seen view ≡ words.now) }
     {
         if is_circuit(words) {
-            Ok(CircuitView::new(words))
+            Ok(CircuitView { words })
         } else {
             Err(Refusal::NoCircuit)
         }
-    }
-
-    // Of words that `check_circuit` has let pass.
-    pub fn new(words: &'a [u32]) -> CircuitView<'a>
-        requires { is_circuit words.now ≡ true }
-        ensures { words_seen result ≡ words.now }
-    {
-        CircuitView { words }
     }
 
     pub fn copies(self) -> u32

@@ -37,8 +37,7 @@ pub fn gather<M: Modular>(layer: LayerView, weights: &[u32], at_x: &[u32], at_y:
         sums: 0,
         products: 0,
     };
-    for (i, weight) in weights.iter().enumerate() {
-        let gate = layer.gate(i);
+    for (gate, weight) in layer.gates().zip(weights) {
         let term = M::mul(*weight, M::mul(at_x[gate.left], at_y[gate.right]));
         gathered.add_term::<M>(gate.kind, term);
     }
