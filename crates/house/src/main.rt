@@ -5,16 +5,16 @@
 ghost use Rattle.std.specs.Prelude.{◌≡◌, ◌<◌, length, IfOk};
 ghost use Rattle.argument.specs.Argument.{first_coins};
 ghost use Rattle.circuits.specs.Words.{modulus, circuit_of};
-ghost use Rattle.programs.specs.Held.{Given};
+ghost use Rattle.programs.specs.Held.{circuit_given};
 ghost use Rattle.prover.specs.Provers.{Stands};
 
 use arithmetic::mersenne::Mersenne31;
 use circuits::check_reduced;
 use claims::message::Message;
-use phases::quarters::Tables;
+use phases::quarters::{Tables, WORK};
 use programs::answering::is_last;
-use programs::given::{check_given, open_prover};
-use programs::held::{MOST_FIRST_COINS, first_coins};
+use programs::given::Given;
+use programs::held::MOST_FIRST_COINS;
 use programs::number::coin_heard;
 use prover::prover::HonestProver;
 use refusals::Refusal;
@@ -26,9 +26,6 @@ use streams::lines::LinesIn;
 use texts::line::Line;
 
 const USAGE: &str = "house CIRCUIT INPUTS";
-
-// words of the four tables that the prover works in
-const WORK: usize = 262144;
 
 // The coin in the next line.
 fn next_coin(rt: &HostRuntime, judge: &mut LinesIn) -> Result<u32, Failure>
@@ -74,42 +71,33 @@ fn talk(
 }
 
 // From the first coins on, in four tables that are lent.
-fn argue<'a>(
+fn argue(
     rt: &HostRuntime,
-    circuit: &'a [u32],
-    inputs: &'a [u32],
+    given: Given,
     coins: &mut [u32],
     tables: &mut Tables,
 ) -> Result<(), Failure>
-    requires given { Given circuit.now inputs.now }
-    requires coins { length coins.old ≡ first_coins (circuit_of circuit.now) }
+    requires coins { length coins.old ≡ first_coins (circuit_of (circuit_given given)) }
 {
     let mut judge = LinesIn::new(rt)?;
     hear_first(rt, &mut judge, coins)?;
     check_reduced::<Mersenne31>(coins)?;
-    let prover = open_prover(circuit, inputs, coins, tables);
+    let prover = given.open(coins, tables);
     talk(rt, &mut judge, prover, tables)
 }
 
-fn house<'a>(rt: &HostRuntime, circuit: &'a [u32], inputs: &'a [u32]) -> Result<(), Failure> {
-    check_given(circuit, inputs)?;
+fn house(rt: &HostRuntime, given: Given) -> Result<(), Failure> {
     let mut room = [0u32; MOST_FIRST_COINS];
     let mut work = [0u32; WORK];
-    let count = first_coins(circuit);
-    argue(
-        rt,
-        circuit,
-        inputs,
-        &mut room[0..count],
-        &mut Tables::over(&mut work),
-    )
+    let count = given.first_coins();
+    argue(rt, given, &mut room[0..count], &mut Tables::over(&mut work))
 }
 
 fn work(rt: &HostRuntime) -> Result<(), Failure> {
     let [circuit, inputs] = arguments::<2>(rt)?;
     let circuit = read_file(rt, circuit.as_str())?;
     let inputs = read_file(rt, inputs.as_str())?;
-    house(rt, circuit.as_slice(), inputs.as_slice())
+    house(rt, Given::check(circuit.as_slice(), inputs.as_slice())?)
 }
 
 fn main(rt: HostRuntime) -> ExitCode {

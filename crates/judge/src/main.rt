@@ -6,12 +6,12 @@ ghost use Rattle.std.specs.Prelude.{◌≡◌, ◌<◌, length};
 ghost use Rattle.argument.specs.Argument.{first_coins};
 ghost use Rattle.circuits.specs.Words.{circuit_of};
 ghost use Rattle.verifier.specs.Meaning.{stand_of};
-ghost use Rattle.programs.specs.Held.{Held};
+ghost use Rattle.programs.specs.Held.{circuit_held};
 
 use arithmetic::mersenne::Mersenne31;
 use circuits::check_reduced;
 use programs::hearing::hear;
-use programs::held::{MOST_FIRST_COINS, check_held, first_coins, open_verifier};
+use programs::held::{Held, MOST_FIRST_COINS};
 use std::process::ExitCode;
 use streams::arguments::arguments;
 use streams::failure::{Failure, exit_code};
@@ -100,37 +100,21 @@ fn conclude(
 }
 
 // From the first coins on, for which room is lent.
-fn argue<'a>(
-    rt: &HostRuntime,
-    circuit: &'a [u32],
-    inputs: &'a [u32],
-    claimed: &[u32],
-    dice: &mut Dice,
-    coins: &mut [u32],
-) -> Result<(), Failure>
-    requires held { Held circuit.now inputs.now claimed.now }
-    requires room { length coins.old ≡ first_coins (circuit_of circuit.now) }
+fn argue(rt: &HostRuntime, held: Held, dice: &mut Dice, coins: &mut [u32]) -> Result<(), Failure>
+    requires room { length coins.old ≡ first_coins (circuit_of (circuit_held held)) }
 {
     draw_first(rt, dice, coins)?;
     check_reduced::<Mersenne31>(coins)?;
-    let mut verifier = open_verifier(circuit, inputs, claimed, coins);
+    let mut verifier = held.open(coins);
     let mut house = LinesIn::new(rt)?;
     let verdict = talk(rt, &mut verifier, dice, &mut house)?;
     conclude(rt, verdict, dice, &mut house)
 }
 
-fn judge<'a>(
-    rt: &HostRuntime,
-    circuit: &'a [u32],
-    inputs: &'a [u32],
-    claimed: &[u32],
-    dice: &str,
-) -> Result<(), Failure> {
-    check_held(circuit, inputs, claimed)?;
-    let mut dice = Dice::open(rt, dice)?;
+fn judge(rt: &HostRuntime, held: Held, dice: &mut Dice) -> Result<(), Failure> {
     let mut room = [0u32; MOST_FIRST_COINS];
-    let count = first_coins(circuit);
-    argue(rt, circuit, inputs, claimed, &mut dice, &mut room[0..count])
+    let count = held.first_coins();
+    argue(rt, held, dice, &mut room[0..count])
 }
 
 fn work(rt: &HostRuntime) -> Result<(), Failure> {
@@ -138,13 +122,9 @@ fn work(rt: &HostRuntime) -> Result<(), Failure> {
     let circuit = read_file(rt, circuit.as_str())?;
     let inputs = read_file(rt, inputs.as_str())?;
     let claimed = read_file(rt, claimed.as_str())?;
-    judge(
-        rt,
-        circuit.as_slice(),
-        inputs.as_slice(),
-        claimed.as_slice(),
-        dice.as_str(),
-    )
+    let held = Held::check(circuit.as_slice(), inputs.as_slice(), claimed.as_slice())?;
+    let mut dice = Dice::open(rt, dice.as_str())?;
+    judge(rt, held, &mut dice)
 }
 
 fn main(rt: HostRuntime) -> ExitCode {

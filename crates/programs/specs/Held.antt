@@ -1,9 +1,12 @@
 -- What `judge` holds before the first coin, and the first of 1, 2, 3 by which it refuses it, else 0.
 -- 1 no circuit; 2 not as many inputs or claimed outputs as it takes; 3 one of them of p or more.
-use Rattle.std.specs.Prelude.{◌≡◌, ℕ, ◌+◌, ◌^◌, true, cond, not, ◌&&◌, List, length, ◌==◌}
+use Rattle.std.specs.Prelude.{ℕ, ◌+◌, ◌^◌, cond, not, ◌&&◌, List, length, ◌==◌}
 use Rattle.arithmetic.specs.Numbers.{modulo, all_reduced}
 use Rattle.circuits.specs.Circuit.{output_size}
+use Rattle.circuits.specs.Views.{words_seen}
 use Rattle.circuits.specs.Words.{modulus, circuit_of, is_circuit}
+use Rattle.programs.specs.declared.given.Given.{Given}
+use Rattle.programs.specs.declared.held.Held.{Held}
 
 abbrev pub held_verdict : List ℕ → List ℕ → List ℕ → ℕ
 held_verdict cs vs claimed =
@@ -15,16 +18,19 @@ held_verdict cs vs claimed =
     2
     (cond (not (all_reduced N vs && all_reduced N claimed)) 3 0))
 
--- what is known where nothing is refused
-pub record Held (cs vs claimed : List ℕ) : Type 0 where
-  pub circuit : is_circuit cs ≡ true
-  pub inputs : length vs ≡ 2 ^ ((circuit_of cs).copies + (circuit_of cs).inputs)
-  pub inputs_reduced : all_reduced (modulo modulus) vs ≡ true
-  pub claimed_whole : length claimed ≡ 2 ^ ((circuit_of cs).copies + output_size (circuit_of cs))
-  pub claimed_reduced : all_reduced (modulo modulus) claimed ≡ true
+-- ---- the words of which nothing is refused
+abbrev pub circuit_held : Held → List ℕ
+circuit_held h = words_seen h.circuit
 
--- the same of what `house` is given: circuit and inputs
-pub record Given (cs vs : List ℕ) : Type 0 where
-  pub circuit : is_circuit cs ≡ true
-  pub inputs : length vs ≡ 2 ^ ((circuit_of cs).copies + (circuit_of cs).inputs)
-  pub inputs_reduced : all_reduced (modulo modulus) vs ≡ true
+abbrev pub inputs_held : Held → List ℕ
+inputs_held h = h.inputs.now
+
+abbrev pub claimed_held : Held → List ℕ
+claimed_held h = h.claimed.now
+
+-- those of what `house` is given
+abbrev pub circuit_given : Given → List ℕ
+circuit_given g = words_seen g.circuit
+
+abbrev pub inputs_given : Given → List ℕ
+inputs_given g = g.inputs.now

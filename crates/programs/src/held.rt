@@ -1,53 +1,73 @@
-// What `judge` holds before the first coin: circuit, inputs and claimed outputs, checked, and the verifier made from them.
-// The first refusal that applies is given.
-ghost use Rattle.std.specs.Prelude.{◌≡◌, ◌≤◌, true, length, MatchResult, OnOk};
+// What `judge` holds before the first coin: circuit, inputs and claimed outputs, of which nothing is refused.
+// A check is the only way to it, and gives the first refusal that applies; with the first coins it makes the verifier.
+ghost use Rattle.std.specs.Prelude.{◌≡◌, ◌+◌, ◌^◌, true, length};
 ghost use Rattle.arithmetic.specs.Numbers.{modulo, all_reduced};
-ghost use Rattle.refusals.specs.Refusals.{number_of};
-ghost use Rattle.circuits.specs.Words.{modulus, circuit_of, is_circuit};
-ghost use Rattle.argument.specs.Argument.{first_coins};
-ghost use Rattle.verdicts.specs.Machine.{start};
-ghost use Rattle.verifier.specs.Meaning.{stand_of, inputs_of};
-ghost use Rattle.programs.specs.Held.{held_verdict, Held};
+ghost use Rattle.circuits.specs.Circuit.{output_size};
+ghost use Rattle.circuits.specs.Views.{circuit_seen};
+ghost use Rattle.circuits.specs.Words.{modulus};
 
 use arithmetic::mersenne::Mersenne31;
-use circuits::{CircuitView, check_circuit, check_counts, check_reduced};
+use circuits::{CircuitView, check_counts, check_reduced};
+use claims::opening::first_coins;
 use refusals::Refusal;
 use verifier::verifier::Verifier;
-
-pub fn check_held(circuit: &[u32], inputs: &[u32], claimed: &[u32]) -> Result<(), Refusal>
-    ensures held { OnOk result (Held circuit.now inputs.now claimed.now) }
-    ensures verdict { MatchResult result (λ _. held_verdict circuit.now inputs.now claimed.now ≡ 0) (λ e. held_verdict circuit.now inputs.now claimed.now ≡ number_of e) }
-{
-    check_circuit(circuit)?;
-    check_counts(CircuitView::new(circuit), inputs.len(), claimed.len())?;
-    check_reduced::<Mersenne31>(inputs)?;
-    check_reduced::<Mersenne31>(claimed)
-}
 
 // No circuit has more first coins.
 pub const MOST_FIRST_COINS: usize = 16;
 
-// How many coins choose the outputs' point.
-pub fn first_coins(circuit: &[u32]) -> usize
-    requires { is_circuit circuit.now ≡ true }
-    ensures value { result ≡ first_coins (circuit_of circuit.now) }
-    ensures limit { result ≤ 16 }
-{
-    let layers = CircuitView::new(circuit).layers();
-    layers.copies() as usize + layers.top_size() as usize
+#[derive(Clone, Copy)]
+pub struct Held<'a> {
+    circuit: CircuitView<'a>,
+    inputs: &'a [u32],
+    claimed: &'a [u32],
+    ghost inputs_whole: { length inputs.now ≡ 2 ^ ((circuit_seen circuit).copies + (circuit_seen circuit).inputs) },
+    ghost inputs_reduced: { all_reduced (modulo modulus) inputs.now ≡ true },
+    ghost claimed_whole: { length claimed.now ≡ 2 ^ ((circuit_seen circuit).copies + output_size (circuit_seen circuit)) },
+    ghost claimed_reduced: { all_reduced (modulo modulus) claimed.now ≡ true },
 }
 
-// The verifier after the first coins.
-pub fn open_verifier<'a>(
-    circuit: &'a [u32],
-    inputs: &'a [u32],
-    claimed: &[u32],
-    coins: &[u32],
-) -> Verifier<'a>
-    requires held { Held circuit.now inputs.now claimed.now }
-    requires coins { (length coins.now ≡ first_coins (circuit_of circuit.now)) × (all_reduced (modulo modulus) coins.now ≡ true) }
-    ensures stand { stand_of result ≡ start (modulo modulus) (circuit_of circuit.now) claimed.now coins.now }
-    ensures inputs { inputs_of result ≡ inputs.now }
-{
-    Verifier::new(CircuitView::new(circuit), inputs, claimed, coins)
+impl<'a> Held<'a> {
+    ghost use Rattle.std.specs.Prelude.{◌≤◌, MatchResult, IfOk};
+    ghost use Rattle.argument.specs.Argument.{first_coins};
+    ghost use Rattle.circuits.specs.Words.{circuit_of};
+    ghost use Rattle.programs.specs.Held.{held_verdict, circuit_held, inputs_held, claimed_held};
+    ghost use Rattle.refusals.specs.Refusals.{number_of};
+    ghost use Rattle.verdicts.specs.Machine.{start};
+    ghost use Rattle.verifier.specs.Meaning.{stand_of, inputs_of};
+
+    pub fn check(
+        circuit: &'a [u32],
+        inputs: &'a [u32],
+        claimed: &'a [u32],
+    ) -> Result<Held<'a>, Refusal>
+        ensures held { IfOk result (λ held. (circuit_held held ≡ circuit.now) × (inputs_held held ≡ inputs.now) × (claimed_held held ≡ claimed.now)) }
+        ensures verdict { MatchResult result (λ _. held_verdict circuit.now inputs.now claimed.now ≡ 0) (λ e. held_verdict circuit.now inputs.now claimed.now ≡ number_of e) }
+    {
+        let view = CircuitView::check(circuit)?;
+        check_counts(view, inputs.len(), claimed.len())?;
+        check_reduced::<Mersenne31>(inputs)?;
+        check_reduced::<Mersenne31>(claimed)?;
+        Ok(Held {
+            circuit: view,
+            inputs,
+            claimed,
+        })
+    }
+
+    // How many coins choose the outputs' point.
+    pub fn first_coins(self) -> usize
+        ensures value { result ≡ first_coins (circuit_of (circuit_held self.entry)) }
+        ensures limit { result ≤ 16 }
+    {
+        first_coins(self.circuit)
+    }
+
+    // The verifier after the first coins.
+    pub fn open(self, coins: &[u32]) -> Verifier<'a>
+        requires coins { (length coins.now ≡ first_coins (circuit_of (circuit_held self))) × (all_reduced (modulo modulus) coins.now ≡ true) }
+        ensures stand { stand_of result ≡ start (modulo modulus) (circuit_of (circuit_held self.entry)) (claimed_held self.entry) coins.now }
+        ensures inputs { inputs_of result ≡ inputs_held self.entry }
+    {
+        Verifier::new(self.circuit, self.inputs, self.claimed, coins)
+    }
 }
