@@ -9,7 +9,7 @@ ghost use Rattle.proving.specs.Proves.{Ready, Answered};
 
 use crate::speaking::answer_all;
 use arithmetic::mersenne::Mersenne31;
-use circuits::{CircuitView, check_circuit, check_reduced};
+use circuits::{CircuitView, check_reduced};
 use judging::checks::{check_lengths, first_coins};
 use phases::quarters::{Tables, WORK};
 use prover::prover::HonestProver;
@@ -30,20 +30,20 @@ fn check_rooms(
     check_lengths(circuit, room, coins)
 }
 
-fn check_all(
-    circuit: &[u32],
+fn check_all<'a>(
+    circuit: &'a [u32],
     inputs: &[u32],
     coins: &[u32],
     room: usize,
     work: usize,
-) -> Result<(), Refusal>
-    ensures { MatchResult result (λ _. Ready circuit.now inputs.now coins.now room work) (λ e. number_of e ≡ prove_verdict circuit.now inputs.now coins.now room work) }
+) -> Result<CircuitView<'a>, Refusal>
+    ensures { MatchResult result (λ view. (words_seen view ≡ circuit.now) × Ready circuit.now inputs.now coins.now room work) (λ e. number_of e ≡ prove_verdict circuit.now inputs.now coins.now room work) }
 {
-    check_circuit(circuit)?;
-    let view = CircuitView::new(circuit);
+    let view = CircuitView::check(circuit)?;
     check_rooms(view, inputs.len(), room, coins.len(), work)?;
     check_reduced::<Mersenne31>(inputs)?;
-    check_reduced::<Mersenne31>(coins)
+    check_reduced::<Mersenne31>(coins)?;
+    Ok(view)
 }
 
 // In four tables over the work.
@@ -72,8 +72,8 @@ pub fn try_prove(
 ) -> Result<(), Refusal>
     ensures { MatchResult result (λ _. Ready circuit.now inputs.now coins.now (length room.old) (length work.old) × (Answered circuit.now inputs.now coins.now room.new × (work.new ≡ replicate (length work.old) 0))) (λ e. (number_of e ≡ prove_verdict circuit.now inputs.now coins.now (length room.old) (length work.old)) × ((room.new ≡ room.old) × (work.new ≡ work.old))) }
 {
-    check_all(circuit, inputs, coins, room.len(), work.len())?;
-    speak(CircuitView::new(circuit), inputs, coins, room, work);
+    let view = check_all(circuit, inputs, coins, room.len(), work.len())?;
+    speak(view, inputs, coins, room, work);
     work.fill(0);
     Ok(())
 }
