@@ -2,10 +2,8 @@
 // reads a coin; the last coin has no answer after it.
 #![tactic(auto)]
 
-ghost use Rattle.std.specs.Prelude.{◌≡◌, ◌<◌, length, IfOk};
-ghost use Rattle.argument.specs.Argument.{first_coins};
-ghost use Rattle.circuits.specs.Words.{modulus, circuit_of};
-ghost use Rattle.programs.specs.Held.{circuit_given};
+ghost use Rattle.std.specs.Prelude.{◌<◌, IfOk};
+ghost use Rattle.circuits.specs.Words.{modulus};
 ghost use Rattle.prover.specs.Provers.{Stands};
 
 use arithmetic::mersenne::Mersenne31;
@@ -70,27 +68,17 @@ fn talk(
     Ok(())
 }
 
-// From the first coins on, in four tables that are lent.
-fn argue(
-    rt: &HostRuntime,
-    given: Given,
-    coins: &mut [u32],
-    tables: &mut Tables,
-) -> Result<(), Failure>
-    requires coins { length coins.old ≡ first_coins (circuit_of (circuit_given given)) }
-{
+// From the first coins on.
+fn house(rt: &HostRuntime, given: Given) -> Result<(), Failure> {
+    let mut room = [0u32; MOST_FIRST_COINS];
+    let coins = &mut room[0..given.first_coins()];
+    let mut work = [0u32; WORK];
+    let mut tables = Tables::over(&mut work);
     let mut judge = LinesIn::new(rt)?;
     hear_first(rt, &mut judge, coins)?;
     check_reduced::<Mersenne31>(coins)?;
-    let prover = given.open(coins, tables);
-    talk(rt, &mut judge, prover, tables)
-}
-
-fn house(rt: &HostRuntime, given: Given) -> Result<(), Failure> {
-    let mut room = [0u32; MOST_FIRST_COINS];
-    let mut work = [0u32; WORK];
-    let count = given.first_coins();
-    argue(rt, given, &mut room[0..count], &mut Tables::over(&mut work))
+    let prover = given.open(coins, &mut tables);
+    talk(rt, &mut judge, prover, &mut tables)
 }
 
 fn work(rt: &HostRuntime) -> Result<(), Failure> {

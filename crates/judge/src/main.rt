@@ -2,11 +2,8 @@
 // In the end it prints `believed`, or where it stopped believing; the status is 0 only where it believes.
 #![tactic(auto)]
 
-ghost use Rattle.std.specs.Prelude.{◌≡◌, ◌<◌, length};
-ghost use Rattle.argument.specs.Argument.{first_coins};
-ghost use Rattle.circuits.specs.Words.{circuit_of};
+ghost use Rattle.std.specs.Prelude.{◌<◌, length};
 ghost use Rattle.verifier.specs.Meaning.{stand_of};
-ghost use Rattle.programs.specs.Held.{circuit_held};
 
 use arithmetic::mersenne::Mersenne31;
 use circuits::check_reduced;
@@ -99,22 +96,16 @@ fn conclude(
     }
 }
 
-// From the first coins on, for which room is lent.
-fn argue(rt: &HostRuntime, held: Held, dice: &mut Dice, coins: &mut [u32]) -> Result<(), Failure>
-    requires room { length coins.old ≡ first_coins (circuit_of (circuit_held held)) }
-{
+// From the first coins on.
+fn judge(rt: &HostRuntime, held: Held, dice: &mut Dice) -> Result<(), Failure> {
+    let mut room = [0u32; MOST_FIRST_COINS];
+    let coins = &mut room[0..held.first_coins()];
     draw_first(rt, dice, coins)?;
     check_reduced::<Mersenne31>(coins)?;
     let mut verifier = held.open(coins);
     let mut house = LinesIn::new(rt)?;
     let verdict = talk(rt, &mut verifier, dice, &mut house)?;
     conclude(rt, verdict, dice, &mut house)
-}
-
-fn judge(rt: &HostRuntime, held: Held, dice: &mut Dice) -> Result<(), Failure> {
-    let mut room = [0u32; MOST_FIRST_COINS];
-    let count = held.first_coins();
-    argue(rt, held, dice, &mut room[0..count])
 }
 
 fn work(rt: &HostRuntime) -> Result<(), Failure> {
