@@ -1,5 +1,5 @@
 -- Each turn passes one gate, whose places are there.
-use Rattle.std.proofs.Common.{◌≡◌, ◌+◌, ◌^◌, ◌<◌, [], ◌∷◌, ◌++◌, length, sym, ◌∙◌, subst, length-append, arith}
+use Rattle.std.proofs.Common.{◌≡◌, ◌+◌, ◌<◌, [], ◌∷◌, ◌++◌, length, sym, ◌∙◌, subst, length-append, arith}
 use Rattle.std.specs.Iterator.Adapters.{zip_first, zip_second}
 use Rattle.std.specs.Slice.Iter.{iter_rest}
 use Rattle.arithmetic.proofs.Newton.{reduced_at}
@@ -31,8 +31,7 @@ add_gate-requires-clause-below g c =
     let first : gates_left (zip_first c.into_iter-gate-iterator.result) ≡ gates_seen c.args.layer = cc in
     let second : iter_rest (zip_second c.into_iter-gate-iterator.result) ≡ c.args.weights.now = cc in
     let turn = gates_turn c.args.layer c.args.weights.now c.loop-gate.yielded c.into_iter-gate-iterator.result c.loop-gate.gate-iterator c.next.new.self c.next.result first second
-    c.loop-gate.yielded_by (c.in-Some.gate, c.in-Some.weight) c.in-Some.is c.next.ensures.steps in
-    (
+    c.loop-gate.yielded_by (c.in-Some.gate, c.in-Some.weight) c.in-Some.is c.next.ensures.steps in (
       subst (λ x. x < g.M.Modular.modulus) (sym turn.3) (reduced_at g.M.Modular.modulus c.args.weights.now c.requires.given (length c.loop-gate.yielded) turn.1),
       (c.requires.picked c.in-Some.gate c.pick-place.result (turn.4.left, turn.4.right) c.pick-place.ensures).1,
     )
