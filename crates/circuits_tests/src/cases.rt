@@ -1,6 +1,7 @@
 // The cases of the table: words, inputs, and how many places the room has.
 // A circuit's words are copies, inputs, layers; for each layer its size, and for each gate kind, left and right.
 
+// from outside the code, as all numbers of a test
 const MODULUS: u32 = 2147483647;
 
 const HUGE: u32 = 4294967295;

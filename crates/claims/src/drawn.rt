@@ -8,6 +8,7 @@ use crate::cut::MOST_VARIABLES;
 
 mod drawing;
 
+// An array and no vector: the calls have no heap, and the struct is copied with its holder.
 #[derive(Clone, Copy)]
 pub struct Drawn {
     words: [u32; MOST_VARIABLES],

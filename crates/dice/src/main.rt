@@ -27,6 +27,7 @@ fn four_bytes(input: &mut io::Stdin) -> Result<[u8; 4], Failure> {
 
 // The next coin: four bytes that make the modulus make none.
 fn next_coin(input: &mut io::Stdin) -> Result<u32, Failure> {
+    // A count stands for no end: a loop on input without one gets no proof, and this one is never reached.
     for _ in 0..u64::MAX {
         if let Some(coin) = coin_of_bytes(four_bytes(input)?) {
             return Ok(coin);

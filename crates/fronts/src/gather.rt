@@ -122,6 +122,7 @@ pub fn weigh_left<M: Modular>(layer: LayerView, weights: &mut [u32], eq_at_x: &[
     ensures reduced { T (all_reduced (modulo M.modulus) weights.new) }
 {
     for (i, weight) in weights.iter_mut().enumerate() {
+        // by its place: after a zip with `iter_mut` nothing would be known of the weights
         let gate = layer.gate(i);
         *weight = M::mul(*weight, eq_at_x[gate.left]);
     }

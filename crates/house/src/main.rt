@@ -33,6 +33,7 @@ fn next_coin(rt: &HostRuntime, judge: &mut LinesIn) -> Result<u32, Failure>
     Ok(coin_heard(line.as_slice())?)
 }
 
+// Not shared with the judge, which prints each: that would be no plainer.
 fn hear_first(rt: &HostRuntime, judge: &mut LinesIn, coins: &mut [u32]) -> Result<(), Failure> {
     for coin in coins.iter_mut() {
         *coin = next_coin(rt, judge)?;
@@ -57,6 +58,7 @@ fn talk(
 ) -> Result<(), Failure>
     requires { Stands 0 0 prover tables.old }
 {
+    // A count stands for no end: a loop on input without one gets no proof, and this one is never reached.
     for _ in 0..u64::MAX {
         print_answer(rt, prover.say(tables))?;
         let coin = next_coin(rt, judge)?;

@@ -64,6 +64,7 @@ fn talk(
     dice: &mut Dice,
     house: &mut LinesIn,
 ) -> Result<Verdict, Failure> {
+    // A count stands for no end: a loop on input without one gets no proof, and this one is never reached.
     for _ in 0..u64::MAX {
         if verifier.at_inputs() {
             return Ok(verifier.settle());

@@ -6,6 +6,7 @@ use refusals::Refusal;
 use std::io;
 use verdicts::verdict::Verdict;
 
+// from outside the code, as all numbers of a test
 pub const MODULUS: u32 = 2147483647;
 
 // one copy, two inputs, one layer of one gate, a product

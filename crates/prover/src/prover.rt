@@ -30,7 +30,7 @@ pub struct HonestProver<'a> {
     shares: Shares,
     // the coins of this layer's variables so far
     drawn: Drawn,
-    // eq of the copies' point at the copies' coins, once these are drawn
+    // eq of the copies' point at the copies' coins, once these are drawn; no `Option`, as the coins say already whether they are
     factor: u32,
     // the value below at x, once x is drawn
     at_x: u32,

@@ -8,6 +8,7 @@ use judging::judge::{Judge, VerifierJudge};
 use proving::house::{HonestHouse, House};
 use std::io;
 
+// from outside the code, as all numbers of a test
 const MODULUS: u32 = 2147483647;
 
 // one copy, two inputs, one layer of one gate

@@ -38,6 +38,7 @@ impl LinesIn {
     pub fn drain(&mut self, heap: Global) -> Result<(), Failure>
         ensures { IfErr result IsSystem }
     {
+        // A count stands for no end: a loop on input without one gets no proof, and this one is never reached.
         for _ in 0..u64::MAX {
             if self.next(heap)?.is_none() {
                 break;

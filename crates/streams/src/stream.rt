@@ -53,6 +53,7 @@ impl Dice {
 
     // Reads on to the byte that ends the next word.
     fn draw(&mut self) -> io::Result<Drawn> {
+        // A count stands for no end: a loop on input without one gets no proof, and this one is never reached.
         for _ in 0..u64::MAX {
             let Some(byte) = self.byte()? else {
                 return Ok(Ok(self.end()));

@@ -58,6 +58,7 @@ pub fn eq_table_scaled<M: Modular>(factor: u32, point: &[u32], out: &mut [u32])
     ensures reduced { T (all_reduced (modulo M.modulus) (scaled_eq_table (modulo M.modulus) factor point.now)) }
 {
     out[0] = factor;
+    // how much of the table is there
     let mut len = 1;
     for r in point.iter().rev() {
         len *= 2;

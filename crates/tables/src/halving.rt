@@ -41,6 +41,7 @@ pub fn mle_at<M: Modular>(table: &mut [u32], point: &[u32]) -> u32
     ensures words { table.new ≡ halved_all (modulo M.modulus) table.old point.now }
     ensures reduced { T (all_reduced (modulo M.modulus) table.new) }
 {
+    // how much of the table is left
     let mut len = table.len();
     for r in point {
         fix_first::<M>(&mut table[..len], *r);

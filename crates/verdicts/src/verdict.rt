@@ -25,6 +25,7 @@ impl fmt::Display for Place {
     }
 }
 
+// No `Result`, which would be no plainer: both cases are what the verifier says, and neither is a failure.
 #[derive(Clone, Copy, Drop, PartialEq, Eq, Debug)]
 pub enum Verdict {
     Believed,

@@ -20,6 +20,7 @@ mod settle;
 mod start;
 mod step;
 
+// That a layer is left stands in clauses: with a type for such a stand each test of `at_inputs` would be a match, no plainer.
 #[derive(Drop)]
 pub struct Verifier<'a> {
     // this layer and those below it

@@ -38,7 +38,8 @@ impl<'a> Verifier<'a> {
         }
     }
 
-    // The values at 0 and 1 have to add up to the total.
+    // The values at 0 and 1 have to add up to the total. It is no plainer to share this with `read_values`, over the test:
+    // the two tests need different facts of the verifier.
     fn read_variable(&self, said: &[u32]) -> Option<Message>
         ensures { MatchOption result (fits_variable field (stand_of self.now) said.now ≡ false) (λ m. (numbers_of m ≡ said.now) × (fits_variable field (stand_of self.now) said.now ≡ true)) }
     {

@@ -1,5 +1,5 @@
 -- Each turn counts one layer more; nothing is left to count where no layer is.
-use Rattle.std.proofs.Common.{◌≡◌, ℕ, ◌+◌, ◌*◌, ◌<◌, length, drop, arith, ap, sym, []}
+use Rattle.std.proofs.Common.{◌≡◌, ℕ, ◌+◌, ◌*◌, ◌<◌, length, drop, arith, ap, sym}
 use Rattle.circuits.specs.Circuit.{size_below}
 use Rattle.circuits.specs.Views.{layers_seen, copies_above, inputs_below}
 use Rattle.judging.proofs.Measuring.{measuring_more}
