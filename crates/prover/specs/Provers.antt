@@ -90,6 +90,11 @@ words_left t =
 abbrev pub answer_length : HonestProver → ℕ
 answer_length t = cond (nat_lt (length (history t)) (variables_of t)) 4 2
 
+-- a prover at the same layer, where the same parts are due at the same coins
+pub record SameLayer (t r : HonestProver) : Type 0 where
+  pub rest : rest_of r ≡ rest_of t
+  pub below : below_of r ≡ below_of t
+
 -- a prover that goes on as another does
 pub record Alike (t r : HonestProver) : Type 0 where
   pub says : (later : List ℕ) → speaks r later ≡ speaks t later

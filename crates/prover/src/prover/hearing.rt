@@ -3,7 +3,7 @@
 ghost use Rattle.std.specs.Prelude.{◌≡◌, ◌<◌, [], ◌∷◌, ◌++◌, length};
 ghost use Rattle.circuits.specs.Views.{layers_seen};
 ghost use Rattle.circuits.specs.Words.{modulus};
-ghost use Rattle.prover.specs.Provers.{Stands, StandsAt, Heard, history, rest_of, variables_of, coins_left};
+ghost use Rattle.prover.specs.Provers.{Stands, StandsAt, SameLayer, Heard, history, rest_of, variables_of, coins_left};
 
 use super::HonestProver;
 use crate::due::Due;
@@ -42,6 +42,8 @@ impl<'a> HonestProver<'a> {
         requires more { length (history self.old) < variables_of self.old }
         requires coin { coin < modulus }
         requires stands { StandsAt 1 1 self.old (history self.old ++ coin ∷ []) tables.old }
+        ensures coins { history self.new ≡ history self.old ++ coin ∷ [] }
+        ensures layer { SameLayer self.old self.new }
         ensures heard { Heard coin self.old self.new }
         ensures stands { Stands 0 0 self.new tables.new }
     {
@@ -55,6 +57,7 @@ impl<'a> HonestProver<'a> {
         requires more { 1 < coins_left self.old }
         requires coin { coin < modulus }
         ensures heard { Heard coin self.old self.new }
+        ensures drawn { length (history self.old) < variables_of self.old → (history self.new ≡ history self.old ++ coin ∷ []) × SameLayer self.old self.new }
         ensures stands { Stands 0 0 self.new tables.new }
     {
         match self.due() {

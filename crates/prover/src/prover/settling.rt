@@ -1,7 +1,7 @@
 // Where a part of a layer begins, its tables are made; elsewhere they are left as they are.
 // A part with no variables ends where it begins, so that the next one begins at once.
 ghost use Rattle.std.specs.Prelude.{◌≡◌, []};
-ghost use Rattle.prover.specs.Provers.{Stands, Alike, history};
+ghost use Rattle.prover.specs.Provers.{Stands, SameLayer, Alike, history};
 
 use super::HonestProver;
 use arithmetic::mersenne::Mersenne31;
@@ -13,6 +13,7 @@ impl<'a> HonestProver<'a> {
         requires { Stands 1 1 self.old tables.old }
         ensures alike { Alike self.old self.new }
         ensures coins { history self.new ≡ history self.old }
+        ensures layer { SameLayer self.old self.new }
         ensures stands { Stands 0 1 self.new tables.new }
     {
         if self.drawn.len() == self.start_of_x() {
@@ -24,6 +25,7 @@ impl<'a> HonestProver<'a> {
         requires { Stands 0 1 self.old tables.old }
         ensures alike { Alike self.old self.new }
         ensures coins { history self.new ≡ history self.old }
+        ensures layer { SameLayer self.old self.new }
         ensures stands { Stands 0 0 self.new tables.new }
     {
         let prover = &*self;
@@ -43,6 +45,7 @@ impl<'a> HonestProver<'a> {
         requires { Stands 1 1 self.old tables.old }
         ensures alike { Alike self.old self.new }
         ensures coins { history self.new ≡ history self.old }
+        ensures layer { SameLayer self.old self.new }
         ensures stands { Stands 0 0 self.new tables.new }
     {
         self.settle_left(tables);
