@@ -2,6 +2,8 @@
 // The file stdout has the table as it must be; a room starts with 7 at each place.
 #![tactic(auto)]
 
+ghost use Rattle.std.specs.Prelude.{◌≡◌, ◌+◌, ◌*◌};
+
 mod cases;
 
 use cases::{CASES, Case};
@@ -21,20 +23,14 @@ fn show(rt: &HostRuntime, case: &Case) -> io::Result<()> {
 }
 
 // Each layer doubles the one value of the layer below it.
-fn deep(rt: &HostRuntime) -> io::Result<()> {
-    let mut layers = [0; 131];
-    layers[2] = 32;
+fn tower<const WORDS: usize>(rt: &HostRuntime, layers: u32) -> io::Result<()>
+    requires { WORDS ≡ 3 + 4 * layers }
+{
+    let mut circuit = [0; WORDS];
+    circuit[2] = layers;
     let mut room = [7];
-    let answer = run(&layers, &[5], &mut room);
-    println!(rt; "32 layers: {answer} {room:?}")
-}
-
-fn too_deep(rt: &HostRuntime) -> io::Result<()> {
-    let mut layers = [0; 135];
-    layers[2] = 33;
-    let mut room = [7];
-    let answer = run(&layers, &[5], &mut room);
-    println!(rt; "33 layers: {answer} {room:?}")
+    let answer = run(&circuit, &[5], &mut room);
+    println!(rt; "{layers} layers: {answer} {room:?}")
 }
 
 fn wide(rt: &HostRuntime) -> io::Result<()> {
@@ -52,7 +48,7 @@ fn main(rt: HostRuntime) -> io::Result<()> {
     for case in &CASES {
         show(&rt, case)?;
     }
-    deep(&rt)?;
-    too_deep(&rt)?;
+    tower::<131>(&rt, 32)?;
+    tower::<135>(&rt, 33)?;
     wide(&rt)
 }

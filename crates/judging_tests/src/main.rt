@@ -5,29 +5,19 @@
 mod refused;
 mod table;
 
-use crate::table::{
-    LAYERED, LAYERED_ANSWERS, LAYERED_COINS, LAYERED_INPUTS, LAYERED_OUTPUTS, PRODUCT,
-    PRODUCT_ANSWERS, PRODUCT_COINS, row,
-};
+use crate::table::{HONEST_LAYERED, HONEST_PRODUCT, LAYERED_ANSWERS, row};
+use judging::call::Transcript;
 use std::io;
 
 fn product(rt: &HostRuntime) -> io::Result<()> {
-    let circuit = &PRODUCT;
-    let inputs = &[3, 5];
-    let answers = &PRODUCT_ANSWERS;
-    let coins = &PRODUCT_COINS;
-    row(rt, "a product", circuit, inputs, &[15], answers, coins)?;
-    row(rt, "a wrong output", circuit, inputs, &[16], answers, coins)?;
-    row(
-        rt,
-        "another coin",
-        circuit,
-        inputs,
-        &[15],
-        answers,
-        &[2, 5, 3],
-    )?;
-    row(rt, "other inputs", circuit, &[5, 3], &[15], answers, coins)
+    let honest = HONEST_PRODUCT;
+    row(rt, "a product", honest)?;
+    let claimed = &[16];
+    row(rt, "a wrong output", Transcript { claimed, ..honest })?;
+    let coins = &[2, 5, 3];
+    row(rt, "another coin", Transcript { coins, ..honest })?;
+    let inputs = &[5, 3];
+    row(rt, "other inputs", Transcript { inputs, ..honest })
 }
 
 // The layered circuit with one number of its answers changed.
@@ -36,15 +26,9 @@ fn changed(rt: &HostRuntime, name: &str, place: usize, number: u32) -> io::Resul
     if place < answers.len() {
         answers[place] = number;
     }
-    row(
-        rt,
-        name,
-        &LAYERED,
-        &LAYERED_INPUTS,
-        &LAYERED_OUTPUTS,
-        &answers,
-        &LAYERED_COINS,
-    )
+    let messages = &answers;
+    let honest = HONEST_LAYERED;
+    row(rt, name, Transcript { messages, ..honest })
 }
 
 fn layered(rt: &HostRuntime) -> io::Result<()> {
@@ -61,35 +45,33 @@ fn layered(rt: &HostRuntime) -> io::Result<()> {
 
 // Two values that give the right expression and are not those of the inputs.
 fn at_the_inputs(rt: &HostRuntime) -> io::Result<()> {
+    let honest = HONEST_LAYERED;
     let mut answers = LAYERED_ANSWERS;
     answers[26] = 340;
     answers[27] = 1370177455;
     row(
         rt,
         "other values with the same expression",
-        &LAYERED,
-        &LAYERED_INPUTS,
-        &LAYERED_OUTPUTS,
-        &answers,
-        &LAYERED_COINS,
+        Transcript {
+            messages: &answers,
+            ..honest
+        },
     )?;
     row(
         rt,
         "inputs in the other order",
-        &LAYERED,
-        &[5, 7, 2, 3],
-        &LAYERED_OUTPUTS,
-        &LAYERED_ANSWERS,
-        &LAYERED_COINS,
+        Transcript {
+            inputs: &[5, 7, 2, 3],
+            ..honest
+        },
     )?;
     row(
         rt,
         "outputs in the other order",
-        &LAYERED,
-        &LAYERED_INPUTS,
-        &[420, 30],
-        &LAYERED_ANSWERS,
-        &LAYERED_COINS,
+        Transcript {
+            claimed: &[420, 30],
+            ..honest
+        },
     )
 }
 

@@ -1,49 +1,44 @@
 // What is refused, alone and together with something else: the first refusal that applies counts.
 // All of it over the circuit of one product.
-use crate::table::{MODULUS, PRODUCT, PRODUCT_ANSWERS, PRODUCT_COINS, row};
+use crate::table::{HONEST_PRODUCT, MODULUS, PRODUCT_ANSWERS, row};
+use judging::call::Transcript;
 use std::io;
 
-// the second place is one that is not there
-const NO_CIRCUIT: [u32; 7] = [0, 1, 1, 0, 1, 0, 2];
-
 // The product with the honest answers.
-fn product(
+fn product<'a>(
     rt: &HostRuntime,
     name: &str,
-    inputs: &[u32],
-    claimed: &[u32],
-    coins: &[u32],
+    inputs: &'a [u32],
+    claimed: &'a [u32],
+    coins: &'a [u32],
 ) -> io::Result<()> {
-    row(rt, name, &PRODUCT, inputs, claimed, &PRODUCT_ANSWERS, coins)
+    let transcript = Transcript {
+        inputs,
+        claimed,
+        coins,
+        ..HONEST_PRODUCT
+    };
+    row(rt, name, transcript)
 }
 
+// The second place of the one gate is one that is not there.
 fn no_circuit(rt: &HostRuntime, name: &str, inputs: &[u32]) -> io::Result<()> {
-    row(
-        rt,
-        name,
-        &NO_CIRCUIT,
+    let transcript = Transcript {
+        circuit: &[0, 1, 1, 0, 1, 0, 2],
         inputs,
-        &[15],
-        &PRODUCT_ANSWERS,
-        &PRODUCT_COINS,
-    )
+        ..HONEST_PRODUCT
+    };
+    row(rt, name, transcript)
 }
 
 fn nine_numbers(rt: &HostRuntime) -> io::Result<()> {
-    let answers = &PRODUCT_ANSWERS[0..9];
-    row(
-        rt,
-        "nine numbers",
-        &PRODUCT,
-        &[3, 5],
-        &[15],
-        answers,
-        &PRODUCT_COINS,
-    )
+    let messages = &PRODUCT_ANSWERS[0..9];
+    let honest = HONEST_PRODUCT;
+    row(rt, "nine numbers", Transcript { messages, ..honest })
 }
 
 pub fn counts(rt: &HostRuntime) -> io::Result<()> {
-    let coins = &PRODUCT_COINS;
+    let coins = HONEST_PRODUCT.coins;
     no_circuit(rt, "no circuit", &[3, 5])?;
     no_circuit(rt, "no circuit and too few inputs", &[3])?;
     product(rt, "too few inputs", &[3], &[15], coins)?;
@@ -61,7 +56,7 @@ pub fn counts(rt: &HostRuntime) -> io::Result<()> {
 }
 
 pub fn numbers(rt: &HostRuntime) -> io::Result<()> {
-    let coins = &PRODUCT_COINS;
+    let coins = HONEST_PRODUCT.coins;
     product(rt, "an input too large", &[MODULUS, 5], &[15], coins)?;
     product(rt, "an output too large", &[3, 5], &[MODULUS + 15], coins)?;
     product(rt, "a coin too large", &[3, 5], &[15], &[2, 4, MODULUS])?;
@@ -79,14 +74,12 @@ pub fn numbers(rt: &HostRuntime) -> io::Result<()> {
 pub fn unreduced(rt: &HostRuntime) -> io::Result<()> {
     let mut answers = PRODUCT_ANSWERS;
     answers[1] = MODULUS;
+    let messages = &answers;
+    let honest = HONEST_PRODUCT;
     row(
         rt,
         "a number of an answer too large",
-        &PRODUCT,
-        &[3, 5],
-        &[15],
-        &answers,
-        &PRODUCT_COINS,
+        Transcript { messages, ..honest },
     )
 }
 
@@ -111,6 +104,6 @@ pub fn two_at_once(rt: &HostRuntime) -> io::Result<()> {
         "an input too large and a wrong output",
         &[MODULUS, 5],
         &[16],
-        &PRODUCT_COINS,
+        HONEST_PRODUCT.coins,
     )
 }

@@ -9,21 +9,18 @@ use verdicts::verdict::Verdict;
 // from outside the code, as all numbers of a test
 pub const MODULUS: u32 = 2147483647;
 
-// one copy, two inputs, one layer of one gate, a product
-pub const PRODUCT: [u32; 7] = [0, 1, 1, 0, 1, 0, 1];
-
 pub const PRODUCT_ANSWERS: [u32; 10] = [
     15, 0, 2147483612, 2147483557, 0, 2147483612, 2147483549, 2147483458, 7, 11,
 ];
 
-pub const PRODUCT_COINS: [u32; 3] = [2, 4, 3];
-
-// two copies: the sum and the product of two inputs, and above them the product of these two
-pub const LAYERED: [u32; 14] = [1, 1, 2, 0, 1, 0, 1, 1, 0, 0, 1, 1, 0, 1];
-
-pub const LAYERED_INPUTS: [u32; 4] = [2, 3, 5, 7];
-
-pub const LAYERED_OUTPUTS: [u32; 2] = [30, 420];
+// one copy, two inputs, one layer of one gate, a product
+pub const HONEST_PRODUCT: Transcript = Transcript {
+    circuit: &[0, 1, 1, 0, 1, 0, 1],
+    inputs: &[3, 5],
+    claimed: &[15],
+    messages: &PRODUCT_ANSWERS,
+    coins: &[2, 4, 3],
+};
 
 pub const LAYERED_ANSWERS: [u32; 28] = [
     2147483347, 4620, 38912, 128154, 7624452, 0, 2094455155, 1996022623, 0, 661958750, 179634714,
@@ -31,7 +28,14 @@ pub const LAYERED_ANSWERS: [u32; 28] = [
     1094858437, 0, 1613544674, 1470650110, 1718799955, 339, 356,
 ];
 
-pub const LAYERED_COINS: [u32; 9] = [11, 12, 13, 14, 15, 16, 17, 18, 19];
+// two copies: the sum and the product of two inputs, and above them the product of these two
+pub const HONEST_LAYERED: Transcript = Transcript {
+    circuit: &[1, 1, 2, 0, 1, 0, 1, 1, 0, 0, 1, 1, 0, 1],
+    inputs: &[2, 3, 5, 7],
+    claimed: &[30, 420],
+    messages: &LAYERED_ANSWERS,
+    coins: &[11, 12, 13, 14, 15, 16, 17, 18, 19],
+};
 
 fn tell(rt: &HostRuntime, examined: Result<Verdict, Refusal>) -> io::Result<()> {
     match examined {
@@ -42,23 +46,15 @@ fn tell(rt: &HostRuntime, examined: Result<Verdict, Refusal>) -> io::Result<()> 
 }
 
 // What the call answers for these words, and the verdict behind it.
-pub fn row(
-    rt: &HostRuntime,
-    name: &str,
-    circuit: &[u32],
-    inputs: &[u32],
-    claimed: &[u32],
-    messages: &[u32],
-    coins: &[u32],
-) -> io::Result<()> {
-    let answer = VerifierJudge::judge(circuit, inputs, claimed, messages, coins);
-    print!(rt; "{name}: {answer}, ")?;
-    let transcript = Transcript {
+pub fn row(rt: &HostRuntime, name: &str, transcript: Transcript) -> io::Result<()> {
+    let Transcript {
         circuit,
         inputs,
         claimed,
         messages,
         coins,
-    };
+    } = transcript;
+    let answer = VerifierJudge::judge(circuit, inputs, claimed, messages, coins);
+    print!(rt; "{name}: {answer}, ")?;
     tell(rt, transcript.examine())
 }
