@@ -9,5 +9,6 @@ use prover::prover::HonestProver;
 pub fn is_last(prover: &HonestProver) -> bool
     ensures { result ≡ (coins_left prover.now == 1) }
 {
+    // By `matches!`: from the derived `==` with `Due::Values` the proof did not get which part is due.
     prover.layers_below() == 0 && matches!(prover.due(), Due::Values)
 }

@@ -21,19 +21,19 @@ impl From<NoNumber> for Refusal {
     }
 }
 
-// A word's number, or none where there is no word.
-pub type Drawn = Result<Option<u32>, NoNumber>;
+// A word of DICE: its number, or none where there is no word.
+pub type Word = Result<Option<u32>, NoNumber>;
 
 // The number where a coin is due: 2 where none is left, 5 where the word is no number. Whether the number is below the
 // modulus is for the verifier to say.
-pub fn due(word: Drawn) -> Result<u32, Refusal>
+pub fn due(word: Word) -> Result<u32, Refusal>
     ensures { MatchResult result (λ n. word ≡ Ok (Some n)) (λ e. ((others : List (Option ℕ)) (go : ℕ → List (Option ℕ) → List Said) → drawn (words_from word others) go ≡ refusal (number_of e) ∷ [])) }
 {
     word?.ok_or(Refusal::WrongCount)
 }
 
 // That nothing is left: 2 where a number is, 5 where a word is that is none.
-pub fn nothing_left(word: Drawn) -> Result<(), Refusal>
+pub fn nothing_left(word: Word) -> Result<(), Refusal>
     ensures { MatchResult result (λ _. ((others : List (Option ℕ)) → closed (words_from word others) ≡ verdict Believed)) (λ e. ((others : List (Option ℕ)) → closed (words_from word others) ≡ refusal (number_of e))) }
 {
     match word? {

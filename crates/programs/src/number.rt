@@ -6,7 +6,7 @@ ghost use Rattle.programs.specs.OneNumber.{one_number};
 ghost use Rattle.texts.specs.Texts.{numbers_of};
 
 use arithmetic::mersenne::Mersenne31;
-use arithmetic::modular::Modular;
+use circuits::check_reduced;
 use refusals::Refusal;
 use texts::whole::read_into;
 
@@ -21,13 +21,11 @@ pub fn one_number(text: &[u8]) -> Result<u32, Refusal>
 }
 
 // The coin in a line.
+#[tactic(auto, unfolding(arithmetic::specs::Numbers::all_reduced))]
 pub fn coin_heard(line: &[u8]) -> Result<u32, Refusal>
     ensures { result ≡ coin_heard (numbers_of line.now) }
 {
     let coin = one_number(line)?;
-    if Mersenne31::is_reduced(coin) {
-        Ok(coin)
-    } else {
-        Err(Refusal::NotReduced)
-    }
+    check_reduced::<Mersenne31>(&[coin])?;
+    Ok(coin)
 }

@@ -3,7 +3,7 @@
 ghost use Rattle.std.specs.Prelude.{◌≡◌};
 ghost use Rattle.programs.specs.Scanning.{Pushed, at_end};
 
-use crate::drawn::{Drawn, NoNumber};
+use crate::drawn::{NoNumber, Word};
 use texts::digits::{append_digit, is_digit};
 use texts::gap::Gap;
 
@@ -16,12 +16,21 @@ pub enum Spot {
 
 impl Spot {
     // Takes one more byte: where the byte after it stands, and what is known by it, which may be nothing yet.
-    pub fn push(self, byte: u8) -> (Spot, Drawn)
+    pub fn push(self, byte: u8) -> (Spot, Word)
         ensures { Pushed self byte result.0 result.1 }
     {
-        match self {
-            Spot::Gap(gap) => push_gap(gap, byte),
-            Spot::Word(number) => push_word(number, byte),
+        // After a word's digits a byte is read as between words, with their number before it.
+        let (gap, before) = match self {
+            Spot::Gap(gap) => (gap, None),
+            Spot::Word(number) => (Gap::Between, Some(number)),
+        };
+        match gap.past(byte) {
+            Some(after) => (Spot::Gap(after), Ok(before)),
+            None if is_digit(byte) => (
+                Spot::Word(append_digit(before.unwrap_or(0), byte - b'0')),
+                Ok(None),
+            ),
+            None => (Spot::Gap(gap), Err(NoNumber)),
         }
     }
 
@@ -33,25 +42,5 @@ impl Spot {
             Spot::Gap(_) => None,
             Spot::Word(number) => Some(number),
         }
-    }
-}
-
-fn push_gap(gap: Gap, byte: u8) -> (Spot, Drawn)
-    ensures { Pushed (Spot.Gap gap) byte result.0 result.1 }
-{
-    match gap.past(byte) {
-        Some(after) => (Spot::Gap(after), Ok(None)),
-        None if is_digit(byte) => (Spot::Word(append_digit(0, byte - b'0')), Ok(None)),
-        None => (Spot::Gap(gap), Err(NoNumber)),
-    }
-}
-
-fn push_word(number: u32, byte: u8) -> (Spot, Drawn)
-    ensures { Pushed (Spot.Word number) byte result.0 result.1 }
-{
-    match Gap::Between.past(byte) {
-        Some(after) => (Spot::Gap(after), Ok(Some(number))),
-        None if is_digit(byte) => (Spot::Word(append_digit(number, byte - b'0')), Ok(None)),
-        None => (Spot::Gap(Gap::Between), Err(NoNumber)),
     }
 }

@@ -5,7 +5,7 @@ ghost use Rattle.programs.specs.Scanning.{at_end};
 ghost use Rattle.streams.specs.Failures.{IsSystem, RefusedBy};
 
 use crate::failure::Failure;
-use programs::drawn::{Drawn, NoNumber, due, nothing_left};
+use programs::drawn::{NoNumber, Word, due, nothing_left};
 use programs::scanner::Spot;
 use refusals::Refusal;
 use std::fs::File;
@@ -52,7 +52,7 @@ impl Dice {
     }
 
     // Reads on to the byte that ends the next word.
-    fn draw(&mut self) -> io::Result<Drawn> {
+    fn draw(&mut self) -> io::Result<Word> {
         // A count stands for no end: a loop on input without one gets no proof, and this one is never reached.
         for _ in 0..u64::MAX {
             let Some(byte) = self.byte()? else {
@@ -68,7 +68,7 @@ impl Dice {
     }
 
     // The next word; a file that cannot be read holds none that is a number, and the reason goes to standard error.
-    fn word(&mut self, rt: &HostRuntime) -> Result<Drawn, Failure>
+    fn word(&mut self, rt: &HostRuntime) -> Result<Word, Failure>
         ensures { IfErr result IsSystem }
     {
         match self.draw() {
