@@ -1,5 +1,5 @@
 -- Whether coins are left for the layers below: none where there is no layer, some where there is one.
--- So the answer before the last coin is told by the layers and the part that is due.
+-- So the answer before the last coin is known by the layers and the part that is due.
 use Rattle.std.proofs.Common.{◌≡◌, ℕ, ◌<◌, List, [], ◌∷◌, length, refl, arith}
 use Rattle.circuits.specs.Circuit.{Layer}
 use Rattle.argument.specs.Argument.{layer_coins}

@@ -10,11 +10,11 @@ use Rattle.programs.proofs.scanner.Spot.push.Goals.{in-Gap, in-Word}
 
 pub returns-in-Some : goal.returns-in-Some
 returns-in-Some c =
-    let told : Option ℕ → Type 0 = λ before. Pushed c.args.self c.args.byte (Gap c.in-Some.after) (Ok before) in
+    let fits : Option ℕ → Type 0 = λ before. Pushed c.args.self c.args.byte (Gap c.in-Some.after) (Ok before) in
     elim c.match-self.branch [
-      | in-Gap w ↦ subst (λ p. told p.1) (sym w.gap-is) (rw w.in-Gap.is (rw w.gap-is at c.in-Some.ensures))
+      | in-Gap w ↦ subst (λ p. fits p.1) (sym w.gap-is) (rw w.in-Gap.is (rw w.gap-is at c.in-Some.ensures))
       | in-Word w ↦
-          subst (λ p. told p.1) (sym w.gap-is)
+          subst (λ p. fits p.1) (sym w.gap-is)
           (rw w.in-Word.is (word_passed w.in-Word.number c.args.byte c.in-Some.after (rw w.gap-is at c.in-Some.ensures)))
     ]
 
