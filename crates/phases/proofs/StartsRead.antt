@@ -40,24 +40,22 @@ module _ (p : ℕ) (several : 1 < p) (l : Layer) (m : ℕ) (k : Claim ℕ) (X c 
   abbrev N : Numbers ℕ
   N = modulo p
 
-  pub left_read : (v w h v' sw zh zj w' h' j' rw rh rj : List ℕ) (factor : ℕ) → CopyTables p l m k X c 0 v w h → factor ≡ get_or h 0 0 → below ≤ length v →
-      v' ≡ v → sw ≡ scaled N factor (take gates w) → w' ≡ take below v → zh ≡ replicate below 0 → zj ≡ replicate below 0 →
+  pub left_read : (v w h sw zh zj w' h' j' rw rh rj : List ℕ) (factor : ℕ) → CopyTables p l m k X c 0 v w h → factor ≡ get_or h 0 0 → below ≤ length v →
+      sw ≡ scaled N factor (take gates w) → w' ≡ take below v → zh ≡ replicate below 0 → zj ≡ replicate below 0 →
       h' ≡ gather_h N l.gates sw (take below v) zh → j' ≡ gather_j N l.gates sw (take below v) zj → length h' ≡ below → length j' ≡ below →
-      T (all_reduced N h') → T (all_reduced N j') → LeftTables p l m k X c [] m factor v' (w' ++ rw) (h' ++ rh) (j' ++ rj)
-  left_read v w h v' sw zh zj w' h' j' rw rh rj factor tables ef room ev es ew ezh ezj eh ej lh lj th tj =
+      T (all_reduced N h') → T (all_reduced N j') → LeftTables p l m k X c [] m factor v (w' ++ rw) (h' ++ rh) (j' ++ rj)
+  left_read v w h sw zh zj w' h' j' rw rh rj factor tables ef room es ew ezh ezj eh ej lh lj th tj =
       let given : sw ≡ scaled N factor (take (2 ^ l.size) w) = es ∙ ap (λ (n : ℕ). scaled N factor (take n w)) eg in
       let lw : length w' ≡ 2 ^ m = ap length ew ∙ length-take-le below v room ∙ eb in
       let H : List ℕ → ℕ → ℕ → List ℕ = λ us n q. gather_h N l.gates us (take n v) (replicate q 0) in
       let J : List ℕ → ℕ → ℕ → List ℕ = λ us n q. gather_j N l.gates us (take n v) (replicate q 0) in
-      let started =
       left_started p several l m k X c reads v w h (w' ++ rw) (h' ++ rh) (j' ++ rj) factor tables ef (subst (λ (n : ℕ). n ≤ length v) eb room)
       (take_at w' rw (2 ^ m) lw ∙ ew ∙ ap (λ (n : ℕ). take n v) eb)
       (take_at h' rh (2 ^ m) (lh ∙ eb) ∙ eh ∙ ap₂ (λ (us t : List ℕ). gather_h N l.gates us (take below v) t) given ezh
       ∙ ap (λ (n : ℕ). H (scaled N factor (take (2 ^ l.size) w)) n n) eb)
       (take_at j' rj (2 ^ m) (lj ∙ eb) ∙ ej ∙ ap₂ (λ (us t : List ℕ). gather_j N l.gates us (take below v) t) given ezj
       ∙ ap (λ (n : ℕ). J (scaled N factor (take (2 ^ l.size) w)) n n) eb)
-      (front_reduced p (2 ^ m) h' rh (lh ∙ eb) th) (front_reduced p (2 ^ m) j' rj (lj ∙ eb) tj) in
-      subst (λ (t : List ℕ). LeftTables p l m k X c [] m factor t (w' ++ rw) (h' ++ rh) (j' ++ rj)) (sym ev) started
+      (front_reduced p (2 ^ m) h' rh (lh ∙ eb) th) (front_reduced p (2 ^ m) j' rj (lj ∙ eb) tj)
 
   pub right_read : (x v w h j v' w1 w2 w3 ex zh zj h' j' rv rh rj : List ℕ) (factor a : ℕ) → LeftTables p l m k X c x 0 factor v w h j → a ≡ get_or v 0 0 →
       length x ≡ m → below ≤ length w → v' ≡ take below w → w1 ≡ layer_weights N l k.shares → w2 ≡ scaled N factor w1 → ex ≡ eq_table N x →

@@ -49,6 +49,12 @@ pub record RightTables (p : ℕ) (l : Layer) (m : ℕ) (k : Claim ℕ) (X c x y 
   pub value : a ≡ mle (modulo p) X (c ++ x)
   pub value_below : a < p
 
+-- the quarters, each with room for a layer's values in all copies
+pub record Rooms (v w h : List ℕ) : Type 0 where
+  pub room_v : length v ≡ 65536
+  pub room_w : length w ≡ 65536
+  pub room_h : length h ≡ 65536
+
 -- a table after a coin: n variables are left, the first of those before being fixed at r
 pub record Fixed (p n r : ℕ) (old new : List ℕ) : Type 0 where
   pub front : take (2 ^ n) new ≡ fix_first (modulo p) r (take (2 ^ suc n) old)

@@ -4,6 +4,9 @@ ghost use Rattle.std.specs.Prelude.{◌≡◌, ◌++◌, length};
 
 use circuits::MOST_PLACES;
 
+mod starting;
+mod turning;
+
 // So many words are lent to work in: four quarters, each with room for a layer's values in all copies.
 pub const WORK: usize = 262144;
 

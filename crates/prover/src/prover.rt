@@ -21,19 +21,19 @@ mod settling;
 
 #[derive(Clone, Copy)]
 pub struct HonestProver<'a> {
-    layer: LayerView<'a>,
+    pub layer: LayerView<'a>,
     // the layers below this one
-    rest: LayersView<'a>,
-    inputs: &'a [u32],
+    pub rest: LayersView<'a>,
+    pub inputs: &'a [u32],
     // the copies' point of the claim about this layer, and its shares
-    copy: [u32; MOST_COORDINATES],
-    shares: Shares,
+    pub copy: [u32; MOST_COORDINATES],
+    pub shares: Shares,
     // the coins of this layer's variables so far
-    drawn: Drawn,
+    pub drawn: Drawn,
     // eq of the copies' point at the copies' coins, once these are drawn; no `Option`, as the coins say already whether they are
-    factor: u32,
+    pub factor: u32,
     // the value below at x, once x is drawn
-    at_x: u32,
+    pub at_x: u32,
     ghost below: { places_below layer ≡ size_below (layers_seen rest) (inputs_below rest) },
     ghost limit_size: { copies_above rest + size_seen layer ≤ 16 },
     ghost limit_below: { copies_above rest + places_below layer ≤ 16 },

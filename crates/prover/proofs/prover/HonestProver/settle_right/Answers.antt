@@ -41,7 +41,7 @@ returns-then-len-start_of_y-clause-stands c =
     let shares = shares_held t c.size.result c.view.result c.size.ensures.value c.view.ensures.meant in
     let place : List ℕ = take (copies_of t) (history t) in
     let after =
-    c.start_right-at_x.ensures (claim_held t) (values_held t) place shares
+    c.start_right-at_x.ensures.tables (claim_held t) (values_held t) place shares
     (subst (λ (d : List ℕ). LeftTables modulus (layer_seen t.layer) (below_of t) (claim_held t) (values_held t) place d 0 t.factor c.args.tables.now.v.now c.args.tables.now.w.now c.args.tables.now.h.now c.args.tables.now.j.now)
     (sym x) before) in
     parts_at_right _ _ _ _ _ _ _ _ _ _ _ _ _ all

@@ -11,7 +11,7 @@ use Rattle.evaluation.proofs.WorkingOut.{all_below}
 use Rattle.fronts.specs.Gathers.{layer_weights}
 use Rattle.tables.proofs.ReducedLists.{reduced_from}
 use Rattle.phases.proofs.StartsRead.{copies_read, layer_weighed}
-use Rattle.phases.proofs.quarters.Tables.start_copies.Goals as goal
+use Rattle.phases.proofs.starts.start_copies.Goals as goal
 
 pub eq_table-requires-clause-room : goal.eq_table-requires-clause-room
 eq_table-requires-clause-room g c =
@@ -20,8 +20,8 @@ eq_table-requires-clause-room g c =
     let few : length c.args.copy.now ≤ 16 = omega arith in
     omega (arith, pow_at_most (length c.args.copy.now) few)
 
-pub returns-clause-tables : goal.returns-clause-tables
-returns-clause-tables g c k copy shares =
+pub returns : goal.returns
+returns g c k copy shares =
     let p = g.M.Modular.modulus in
     let several : 1 < p = omega (arith, g.met.M.Modular.above) in
     let layer = c.args.layer in

@@ -4,7 +4,7 @@ use native.Mathlib.Nat.{sub-zero}
 use Rattle.circuits.specs.Views.{layer_seen, places_below}
 use Rattle.phases.proofs.StartsRead.{reduced_end}
 use Rattle.phases.proofs.TurnSteps.{copies_turn, halved, halved_reduced}
-use Rattle.phases.proofs.quarters.Tables.copy_coin.Goals as goal
+use Rattle.phases.proofs.turns.copy_coin.Goals as goal
 
 pub fix_first-requires-clause-reduced : goal.fix_first-requires-clause-reduced
 fix_first-requires-clause-reduced g c =
@@ -12,17 +12,17 @@ fix_first-requires-clause-reduced g c =
     let all = c.power.result in
     let ea : all - 0 ≡ 2 ^ c.args.left * 2 ^ places_below layer =
     sub-zero all ∙ c.power.ensures.value ∙ ap (λ (n : ℕ). 2 ^ (c.args.left + n)) c.size_below.ensures.value ∙ pow-add 2 c.args.left (places_below layer) in
-    reduced_end g.M.Modular.modulus _ (all - 0) c.args.self.now.v.now (sym ea) c.requires.values
+    reduced_end g.M.Modular.modulus _ (all - 0) c.args.v.now (sym ea) c.requires.values
 
-pub returns-clause-tables : goal.returns-clause-tables
-returns-clause-tables g c k X point w tables =
+pub returns : goal.returns
+returns g c k X point w tables =
     let p = g.M.Modular.modulus in
     let several : 1 < p = omega (arith, g.met.M.Modular.above) in
     let layer = c.args.layer in
     let left = c.args.left in
     let r = c.args.coin in
-    let v = c.args.self.now.v.now in
-    let h = c.args.self.now.h.now in
+    let v = c.args.v.now in
+    let h = c.args.h.now in
     let all : ℕ = c.power.result - 0 in
     let count : ℕ = c.power-2.result - 0 in
     let ea : all ≡ 2 ^ (left + places_below layer) = sub-zero c.power.result ∙ c.power.ensures.value ∙ ap (λ (n : ℕ). 2 ^ (left + n)) c.size_below.ensures.value in

@@ -9,7 +9,7 @@ use Rattle.circuits.specs.Views.{layer_seen, gates_seen, size_seen, places_below
 use Rattle.fronts.specs.Gathers.{layer_weights}
 use Rattle.rounds.proofs.RowSteps.{gates_read}
 use Rattle.phases.proofs.StartsRead.{filled_reduced, layer_weighed, eq_filled, right_read}
-use Rattle.phases.proofs.quarters.Tables.start_right.Goals as goal
+use Rattle.phases.proofs.starts.start_right.Goals as goal
 
 pub gather_right-requires-clause-reduced : goal.gather_right-requires-clause-reduced
 gather_right-requires-clause-reduced g c =
@@ -34,7 +34,7 @@ returns g c k X point shares tables =
     let lw : length c.weigh.new.weights ≡ 2 ^ size_seen layer = omega (arith, eg) in
     let le : length c.eq_table.new.out ≡ 2 ^ length x = omega (arith, ex) in
     right_read p several (layer_seen layer) m k X point (gates_read (2 ^ m) (gates_seen layer) parts.fits) (gates - 0) (below - 0) eg eb
-    x c.args.self.now.v.now c.args.self.now.w.now c.args.self.now.h.now c.args.self.now.j.now
+    x c.args.v.now c.args.w.now c.args.h.now c.args.j.now
     c.copy_from_slice.new.self c.weigh.new.weights c.scale.new.table c.weigh_left.new.weights c.eq_table.new.out c.fill.new.self c.fill-2.new.self
     c.gather_right.new.h c.gather_right.new.j _ _ _ c.args.factor _ tables refl c.requires.x.0 (omega arith) c.copy_from_slice.ensures.after
     (layer_weighed p (layer_seen layer) _ size c.weigh.new.weights c.requires.shares.first.coordinates (length-gates_of (2 ^ size_seen layer) layer.words.now) lw c.weigh.ensures.weights
