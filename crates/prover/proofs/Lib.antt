@@ -2,5 +2,6 @@ pub mod Telling
 pub mod PartSteps
 pub mod ProverSteps
 pub mod ProverSays
+pub mod ProverHears
 pub mod LayerBelow
 pub mod OpeningSteps

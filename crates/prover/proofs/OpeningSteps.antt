@@ -14,7 +14,7 @@ use Rattle.argument.specs.Honest.{honest, honest_from}
 use Rattle.argument.specs.Transcript.{layer_words}
 use Rattle.claims.specs.Meaning.{shares_meant}
 use Rattle.claims.specs.declared.claim.Share.{Share}
-use Rattle.prover.specs.Provers.{Begins, Alike, history, speaks, Opened}
+use Rattle.prover.specs.Provers.{Begins, speaks, Opened}
 use Rattle.phases.specs.Standing.{claim_on}
 use Rattle.prover.specs.declared.prover.HonestProver.{HonestProver}
 use Rattle.prover.proofs.Telling.{any_total}
@@ -43,8 +43,8 @@ circuit_some ws h =
     leb-true 1 (length c.layers) (and_parts (leb 1 (length c.layers)) (layers_fit c.layers c.inputs) (circuit_lawful ws h)).0
 
 -- at the layers of a circuit, with a share of factor 1 that was cut out of the coins
-module _ (c : Circuit) (vs coins copy : List ℕ) (ls : LayersView) (first : Share) (r s : HonestProver) (ec : copies_above ls ≡ c.copies)
-    (ei : inputs_below ls ≡ c.inputs) (el : layers_seen ls ≡ c.layers) (begun : Begins ls vs copy (record { first = first; second = None }) s) (alike : Alike s r)
+module _ (c : Circuit) (vs coins copy : List ℕ) (ls : LayersView) (first : Share) (r : HonestProver) (ec : copies_above ls ≡ c.copies)
+    (ei : inputs_below ls ≡ c.inputs) (el : layers_seen ls ≡ c.layers) (begun : Begins ls vs copy (record { first = first; second = None }) r)
     (e1 : first.factor ≡ 1) (ic : take c.copies copy ≡ take c.copies coins)
     (ix : take (output_size c) first.point ≡ take (output_size c) (drop c.copies coins)) (enough : first_coins c ≤ length coins) where
   abbrev z : List ℕ
@@ -58,8 +58,7 @@ module _ (c : Circuit) (vs coins copy : List ℕ) (ls : LayersView) (first : Sha
       let long : length z ≡ first_coins c = length-take-le (first_coins c) coins enough in
       let C : take c.copies copy ≡ take c.copies z = ic ∙ sym (take-take c.copies (first_coins c) coins (omega arith)) in
       let X : take (output_size c) first.point ≡ drop c.copies z = ix ∙ sym (drop-take c.copies (output_size c) coins) in
-      alike.says later
-      ∙ begun.says later
+      begun.says later
       ∙ ap₂ (λ (n i : ℕ). honest_from N n (layers_seen ls) i vs (claim_on (take n copy) (shares_meant (size_below (layers_seen ls) i) (record { first = first; second = None }))) later) ec ei
       ∙ ap (λ (qs : List Layer). honest_from N c.copies qs c.inputs vs (claim_on (take c.copies copy) (shares_meant (size_below qs c.inputs) (record { first = first; second = None }))) later) el
       ∙ ap (λ (f : ℕ). go (take c.copies copy) (make f (take (output_size c) first.point) ∷ [])) e1
@@ -69,11 +68,11 @@ module _ (c : Circuit) (vs coins copy : List ℕ) (ls : LayersView) (first : Sha
       (ap₂ (λ (d e : List ℕ). honest_from N c.copies c.layers c.inputs vs (first_claim N c (outputs N c vs) d) e)
       (take_at z later (first_coins c) long) (drop_at z later (first_coins c) long))
 
-  pub opened : history r ≡ [] → Opened c vs coins r
-  opened none =
+  pub opened : Opened c vs coins r
+  opened =
       record {
-        none = none;
+        none = begun.none;
         says = opened_says;
-        coins_are = alike.coins ∙ begun.coins ∙ ap₂ (λ (n i : ℕ). layer_coins n (layers_seen ls) i) ec ei ∙ ap (λ (qs : List Layer). layer_coins c.copies qs c.inputs) el;
-        words_are = alike.words ∙ begun.words ∙ ap₂ (λ (n i : ℕ). layer_words n (layers_seen ls) i) ec ei ∙ ap (λ (qs : List Layer). layer_words c.copies qs c.inputs) el;
+        coins_are = begun.coins ∙ ap₂ (λ (n i : ℕ). layer_coins n (layers_seen ls) i) ec ei ∙ ap (λ (qs : List Layer). layer_coins c.copies qs c.inputs) el;
+        words_are = begun.words ∙ ap₂ (λ (n i : ℕ). layer_words n (layers_seen ls) i) ec ei ∙ ap (λ (qs : List Layer). layer_words c.copies qs c.inputs) el;
       }

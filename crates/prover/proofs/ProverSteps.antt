@@ -8,43 +8,42 @@ use Rattle.circuits.specs.Words.{modulus}
 use Rattle.claims.specs.Meaning.{shares_meant}
 use Rattle.claims.specs.Shares.{shares_seen}
 use Rattle.claims.specs.declared.share.SharesView.{SharesView}
-use Rattle.prover.specs.Provers.{IsDue, StandsAt, Stands, claim_held, values_held, copies_of, below_of, history}
+use Rattle.prover.specs.Provers.{IsDue, PartsAt, claim_held, values_held, copies_of, below_of, history}
 use Rattle.phases.specs.Standing.{CopyTables, LeftTables, RightTables}
-use Rattle.phases.specs.declared.quarters.Tables.{Tables}
 use Rattle.prover.specs.declared.due.Due.TheVariants.{Copies, Left}
 use Rattle.prover.specs.declared.prover.HonestProver.{HonestProver}
 
 -- the tables of the part that is due
-module _ (t : HonestProver) (b : Tables) (s : Stands 0 0 t b) (n : ℕ) where
-  pub copies_due : IsDue t (Copies n) → CopyTables modulus (layer_seen t.layer) (below_of t) (claim_held t) (values_held t) (history t) n b.v.now b.w.now b.h.now
+module _ (t : HonestProver) (v w h j : List ℕ) (s : PartsAt 0 0 t (history t) v w h j) (n : ℕ) where
+  pub copies_due : IsDue t (Copies n) → CopyTables modulus (layer_seen t.layer) (below_of t) (claim_held t) (values_held t) (history t) n v w h
   copies_due (some, left) =
       let same : copies_of t - length (history t) ≡ n = omega arith in
-      subst (λ (i : ℕ). CopyTables modulus (layer_seen t.layer) (below_of t) (claim_held t) (values_held t) (history t) i b.v.now b.w.now b.h.now)
+      subst (λ (i : ℕ). CopyTables modulus (layer_seen t.layer) (below_of t) (claim_held t) (values_held t) (history t) i v w h)
       same (s.over_copies (omega arith))
 
   pub left_due : IsDue t (Left n) →
-      LeftTables modulus (layer_seen t.layer) (below_of t) (claim_held t) (values_held t) (take (copies_of t) (history t)) (drop (copies_of t) (history t)) n t.factor b.v.now b.w.now b.h.now b.j.now
+      LeftTables modulus (layer_seen t.layer) (below_of t) (claim_held t) (values_held t) (take (copies_of t) (history t)) (drop (copies_of t) (history t)) n t.factor v w h j
   left_due (some, enough, left) =
       let same : copies_of t + below_of t - length (history t) ≡ n = omega arith in
-      subst (λ (i : ℕ). LeftTables modulus (layer_seen t.layer) (below_of t) (claim_held t) (values_held t) (take (copies_of t) (history t)) (drop (copies_of t) (history t)) i t.factor b.v.now b.w.now b.h.now b.j.now)
+      subst (λ (i : ℕ). LeftTables modulus (layer_seen t.layer) (below_of t) (claim_held t) (values_held t) (take (copies_of t) (history t)) (drop (copies_of t) (history t)) i t.factor v w h j)
       same (s.over_left (omega arith) (omega arith))
 
   pub right_due : copies_of t + below_of t ≤ length (history t) → length (history t) + n ≡ copies_of t + 2 * below_of t →
       RightTables modulus (layer_seen t.layer) (below_of t) (claim_held t) (values_held t) (take (copies_of t) (history t))
-      (take (below_of t) (drop (copies_of t) (history t))) (drop (copies_of t + below_of t) (history t)) n t.at_x b.v.now b.h.now b.j.now
+      (take (below_of t) (drop (copies_of t) (history t))) (drop (copies_of t + below_of t) (history t)) n t.at_x v h j
   right_due enough left =
       let same : copies_of t + 2 * below_of t - length (history t) ≡ n = omega arith in
       subst (λ (i : ℕ). RightTables modulus (layer_seen t.layer) (below_of t) (claim_held t) (values_held t) (take (copies_of t) (history t))
-      (take (below_of t) (drop (copies_of t) (history t))) (drop (copies_of t + below_of t) (history t)) i t.at_x b.v.now b.h.now b.j.now)
+      (take (below_of t) (drop (copies_of t) (history t))) (drop (copies_of t + below_of t) (history t)) i t.at_x v h j)
       same (s.over_right (omega arith))
 
 -- a layer at its start: no coin is drawn yet
-pub begun : (t : HonestProver) (b : Tables) → history t ≡ [] →
-    CopyTables modulus (layer_seen t.layer) (below_of t) (claim_held t) (values_held t) [] (copies_of t) b.v.now b.w.now b.h.now → Stands 1 1 t b
-begun t b none tables =
-    subst (λ (coins : List ℕ). StandsAt 1 1 t coins b) (sym none)
+pub begun : (t : HonestProver) (v w h j : List ℕ) → history t ≡ [] →
+    CopyTables modulus (layer_seen t.layer) (below_of t) (claim_held t) (values_held t) [] (copies_of t) v w h → PartsAt 1 1 t (history t) v w h j
+begun t v w h j none tables =
+    subst (λ (coins : List ℕ). PartsAt 1 1 t coins v w h j) (sym none)
     (record {
-      over_copies = λ _. subst (λ (n : ℕ). CopyTables modulus (layer_seen t.layer) (below_of t) (claim_held t) (values_held t) [] n b.v.now b.w.now b.h.now) (sym (sub-zero (copies_of t))) tables;
+      over_copies = λ _. subst (λ (n : ℕ). CopyTables modulus (layer_seen t.layer) (below_of t) (claim_held t) (values_held t) [] n v w h) (sym (sub-zero (copies_of t))) tables;
       over_left = λ many _. absurd (omega arith);
       over_right = λ many. absurd (omega arith);
     })

@@ -14,7 +14,7 @@ use Rattle.argument.specs.Transcript.{layer_words, answer_words}
 use Rattle.claims.specs.Drawing.{coins_drawn}
 use Rattle.claims.specs.Meaning.{shares_meant}
 use Rattle.claims.specs.declared.claim.Shares.{Shares}
-use Rattle.phases.specs.Standing.{claim_on, CopyTables, LeftTables, RightTables}
+use Rattle.phases.specs.Standing.{claim_on, Rooms, CopyTables, LeftTables, RightTables}
 use Rattle.phases.specs.declared.quarters.Tables.{Tables}
 use Rattle.prover.specs.declared.due.Due.{Due}
 use Rattle.prover.specs.declared.due.Due.TheVariants.{Copies, Left, Right, Values}
@@ -62,14 +62,20 @@ IsDue t (Left n) = (0 < n) × (copies_of t ≤ length (history t)) × (length (h
 IsDue t (Right n) = (0 < n) × (copies_of t + below_of t ≤ length (history t)) × (length (history t) + n ≡ variables_of t)
 IsDue t Values = length (history t) ≡ variables_of t
 
--- the tables are those at these coins of the layer
-abbrev pub StandsAt : ℕ → ℕ → HonestProver → List ℕ → Tables → Type 0
-StandsAt i q t coins b =
-    Parts i q modulus (layer_seen t.layer) (below_of t) (claim_held t) (values_held t) (copies_of t) coins t.factor t.at_x
-    b.v.now b.w.now b.h.now b.j.now
+-- its parts at these coins of the layer
+abbrev pub PartsAt : ℕ → ℕ → HonestProver → List ℕ → List ℕ → List ℕ → List ℕ → List ℕ → Type 0
+PartsAt i q t coins v w h j =
+    Parts i q modulus (layer_seen t.layer) (below_of t) (claim_held t) (values_held t) (copies_of t) coins t.factor t.at_x v w h j
 
+-- the prover stands in these quarters
+pub record StandsIn (i q : ℕ) (t : HonestProver) (v w h j : List ℕ) : Type 0 where
+  pub rooms : Rooms v w h
+  pub room_j : length j ≡ 65536
+  pub parts : PartsAt i q t (history t) v w h j
+
+-- the same of the struct of the four, which has their lengths
 abbrev pub Stands : ℕ → ℕ → HonestProver → Tables → Type 0
-Stands i q t b = StandsAt i q t (history t) b
+Stands i q t b = PartsAt i q t (history t) b.v.now b.w.now b.h.now b.j.now
 
 -- what it says from here on, as a function of the coins to come
 abbrev pub speaks : HonestProver → Prover ℕ
@@ -90,10 +96,33 @@ words_left t =
 abbrev pub answer_length : HonestProver → ℕ
 answer_length t = cond (nat_lt (length (history t)) (variables_of t)) 4 2
 
--- a prover at the same layer, where the same parts are due at the same coins
+-- a prover at the same layer, with the same inputs and the same claim, where the same parts are due at the same coins
 pub record SameLayer (t r : HonestProver) : Type 0 where
+  pub layer : r.layer ≡ t.layer
   pub rest : rest_of r ≡ rest_of t
   pub below : below_of r ≡ below_of t
+  pub inputs : r.inputs ≡ t.inputs
+  pub copy : r.copy ≡ t.copy
+  pub shares : r.shares ≡ t.shares
+
+-- one coin more, and nothing else
+pub record Pushed (coin : ℕ) (t r : HonestProver) : Type 0 where
+  pub same : SameLayer t r
+  pub coins : history r ≡ history t ++ coin ∷ []
+  pub factor : r.factor ≡ t.factor
+  pub at_x : r.at_x ≡ t.at_x
+
+-- with the factor of the part of x, and nothing else
+pub record WithFactor (t r : HonestProver) : Type 0 where
+  pub same : SameLayer t r
+  pub drawn : r.drawn ≡ t.drawn
+  pub at_x : r.at_x ≡ t.at_x
+
+-- with the value at x, and nothing else
+pub record WithValue (t r : HonestProver) : Type 0 where
+  pub same : SameLayer t r
+  pub drawn : r.drawn ≡ t.drawn
+  pub factor : r.factor ≡ t.factor
 
 -- a prover that goes on as another does
 pub record Alike (t r : HonestProver) : Type 0 where

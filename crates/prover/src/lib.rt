@@ -2,5 +2,10 @@
 // Its tables are halved after each coin, so that a layer takes time in proportion to the gates of all copies.
 #![tactic(auto)]
 
+pub mod coins;
 pub mod due;
+pub mod hearing;
+pub mod opening;
 pub mod prover;
+pub mod saying;
+pub mod settling;

@@ -13,6 +13,7 @@ use claims::claim::Shares;
 use claims::cut::MOST_COORDINATES;
 use claims::drawn::Drawn;
 
+mod coins;
 mod hearing;
 mod opening;
 mod place;

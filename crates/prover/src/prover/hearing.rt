@@ -3,11 +3,11 @@
 ghost use Rattle.std.specs.Prelude.{◌≡◌, ◌<◌, [], ◌∷◌, ◌++◌, length};
 ghost use Rattle.circuits.specs.Views.{layers_seen};
 ghost use Rattle.circuits.specs.Words.{modulus};
-ghost use Rattle.prover.specs.Provers.{Stands, StandsAt, SameLayer, Heard, history, rest_of, variables_of, coins_left};
+ghost use Rattle.phases.specs.References.{SameReferences};
+ghost use Rattle.prover.specs.Provers.{Stands, StandsIn, SameLayer, Heard, history, rest_of, variables_of, coins_left};
 
 use super::HonestProver;
 use crate::due::Due;
-use arithmetic::mersenne::Mersenne31;
 use claims::claim::{Share, Shares};
 use claims::cut::cut;
 use phases::quarters::Tables;
@@ -37,20 +37,6 @@ impl<'a> HonestProver<'a> {
         HonestProver::at(self.rest, self.inputs, cut(point, 0, x), shares)
     }
 
-    // A coin more, by which the tables are halved already.
-    fn push(&mut self, coin: u32, tables: &mut Tables)
-        requires more { length (history self.old) < variables_of self.old }
-        requires coin { coin < modulus }
-        requires stands { StandsAt 1 1 self.old (history self.old ++ coin ∷ []) tables.old }
-        ensures coins { history self.new ≡ history self.old ++ coin ∷ [] }
-        ensures layer { SameLayer self.old self.new }
-        ensures heard { Heard coin self.old self.new }
-        ensures stands { Stands 0 0 self.new tables.new }
-    {
-        self.drawn.push(coin);
-        self.settle(tables);
-    }
-
     // Takes any coin but the last one, after which nothing is answered.
     pub fn hear(&mut self, coin: u32, tables: &mut Tables)
         requires stands { Stands 0 0 self.old tables.old }
@@ -59,19 +45,35 @@ impl<'a> HonestProver<'a> {
         ensures heard { Heard coin self.old self.new }
         ensures drawn { length (history self.old) < variables_of self.old → (history self.new ≡ history self.old ++ coin ∷ []) × SameLayer self.old self.new }
         ensures stands { Stands 0 0 self.new tables.new }
+        ensures same_references { SameReferences tables.old tables.new }
+    {
+        self.hear_in(coin, tables.v, tables.w, tables.h, tables.j);
+    }
+
+    // The same in four quarters that are lent.
+    pub(crate) fn hear_in(
+        &mut self,
+        coin: u32,
+        v: &mut [u32],
+        w: &mut [u32],
+        h: &mut [u32],
+        j: &mut [u32],
+    )
+        requires stands { StandsIn 0 0 self.old v.old w.old h.old j.old }
+        requires more { 1 < coins_left self.old }
+        requires coin { coin < modulus }
+        ensures heard { Heard coin self.old self.new }
+        ensures drawn { length (history self.old) < variables_of self.old → (history self.new ≡ history self.old ++ coin ∷ []) × SameLayer self.old self.new }
+        ensures stands { StandsIn 0 0 self.new v.new w.new h.new j.new }
     {
         match self.due() {
-            Due::Copies(left) => {
-                tables.copy_coin::<Mersenne31>(self.layer, left, coin);
-                self.push(coin, tables);
-            }
-            Due::Left(left) | Due::Right(left) => {
-                tables.product_coin::<Mersenne31>(left, coin);
-                self.push(coin, tables);
-            }
             Due::Values => {
                 *self = self.below(coin);
-                self.begin(tables);
+                self.begin(v, w, h, j);
+            }
+            _ => {
+                self.take_coin(coin, v, w, h, j);
+                self.settle(v, w, h, j);
             }
         }
     }

@@ -1,23 +1,25 @@
-// The prover at the outputs' layer: the first coins are the point of the claim about it.
-// What the outputs are there is of no account to it.
+// The prover at the first of some layers, of which no coin is drawn yet.
+// At the outputs' layer it is made with its tables, and so stands at its first answer.
 ghost use Rattle.std.specs.Prelude.{◌≡◌, ◌+◌, ◌^◌, ◌<◌, ◌≤◌, true, [], ◌∷◌, length};
 ghost use Rattle.arithmetic.specs.Numbers.{modulo, all_reduced};
 ghost use Rattle.argument.specs.Argument.{first_coins};
 ghost use Rattle.circuits.specs.Values.{EachBelow};
 ghost use Rattle.circuits.specs.Views.{circuit_seen, layers_seen, copies_above, inputs_below};
 ghost use Rattle.circuits.specs.Words.{modulus};
+ghost use Rattle.phases.specs.References.{SameReferences};
 ghost use Rattle.prover.specs.Provers.{Begins, Opened, Stands};
 
 use super::HonestProver;
+use crate::opening::open;
 use circuits::{CircuitView, LayersView};
-use claims::claim::{Share, Shares};
-use claims::cut::{MOST_COORDINATES, cut};
+use claims::claim::Shares;
+use claims::cut::MOST_COORDINATES;
 use claims::drawn::Drawn;
 use phases::quarters::Tables;
 
 impl<'a> HonestProver<'a> {
     // At the first of these layers, of which no coin is drawn yet.
-    pub(super) fn at(
+    pub(crate) fn at(
         layers: LayersView<'a>,
         inputs: &'a [u32],
         copy: [u32; MOST_COORDINATES],
@@ -51,19 +53,10 @@ impl<'a> HonestProver<'a> {
         requires coins { (first_coins (circuit_seen circuit) ≤ length coins.now) × (all_reduced (modulo modulus) coins.now ≡ true) }
         ensures opened { Opened (circuit_seen circuit.entry) inputs.now coins.now result }
         ensures stands { Stands 0 0 result tables.new }
+        ensures same_references { SameReferences tables.old tables.new }
     {
-        let layers = circuit.layers();
-        let copies = layers.copies() as usize;
-        let size = layers.top_size() as usize;
-        let shares = Shares {
-            first: Share {
-                factor: 1,
-                point: cut(coins, copies, size),
-            },
-            second: None,
-        };
-        let mut prover = HonestProver::at(layers, inputs, cut(coins, 0, copies), shares);
-        prover.begin(tables);
+        let mut prover = open(circuit, inputs, coins);
+        prover.begin(tables.v, tables.w, tables.h, tables.j);
         prover
     }
 }

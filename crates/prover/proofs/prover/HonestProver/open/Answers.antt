@@ -1,19 +1,7 @@
--- The parts of the circuit and of the first coins are the prover's.
-use Rattle.std.proofs.Common.{◌≡◌, refl, ap₂, ◌∙◌}
-use Rattle.circuits.specs.Circuit.{size_below, output_size}
+-- Where the tables are made nothing is said.
 use Rattle.circuits.specs.Views.{circuit_seen}
-use Rattle.prover.proofs.LayerBelow.{cut_is}
-use Rattle.prover.proofs.OpeningSteps.{opened}
+use Rattle.prover.proofs.ProverHears.{opened_alike}
 use Rattle.prover.proofs.prover.HonestProver.open.Goals as goal
 
 pub returns-clause-opened : goal.returns-clause-opened
-returns-clause-opened c =
-    let seen = circuit_seen c.args.circuit in
-    let all = c.layers-layers.ensures in
-    let coins = c.args.coins.now in
-    let copies : c.copies-copies.result ≡ seen.copies = c.copies-copies.ensures.value ∙ all.copies in
-    let size : c.top_size-size.result ≡ output_size seen = c.top_size-size.ensures.value ∙ ap₂ size_below all.layers all.inputs in
-    opened seen c.args.inputs.now coins _ c.layers-layers.result _ _ _ all.copies all.inputs all.layers c.at-prover.ensures c.begin.ensures.alike refl
-    (cut_is 0 _ 0 _ coins coins _ refl copies refl c.cut-2.ensures.part)
-    (cut_is _ _ _ _ coins coins _ copies size refl c.cut.ensures.part)
-    c.requires.coins.0 c.begin.ensures.none
+returns-clause-opened c = opened_alike (circuit_seen c.args.circuit) c.args.inputs.now c.args.coins.now _ _ c.open-prover.ensures c.begin.ensures.alike c.begin.ensures.none

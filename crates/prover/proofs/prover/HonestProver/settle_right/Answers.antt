@@ -26,9 +26,9 @@ pub start_right-at_x-requires-clause-factor : goal.start_right-at_x-requires-cla
 start_right-at_x-requires-clause-factor c =
     let t = c.args.self.now in
     let all : length (history t) ≡ copies_of t + below_of t = omega arith in
-    let tables = left_fixed _ _ _ _ _ _ _ _ _ _ _ _ _ c.requires all in
+    let tables = left_fixed _ _ _ _ _ _ _ _ _ _ _ _ _ c.requires.parts all in
     let several : 1 < modulus = omega arith in
-    (tables.factor_below, (last_number modulus several c.args.tables.now.v.now tables.tables.v_reduced).1)
+    (tables.factor_below, (last_number modulus several c.args.v.now tables.tables.v_reduced).1)
 
 pub returns-then-len-start_of_y-clause-stands : goal.returns-then-len-start_of_y-clause-stands
 returns-then-len-start_of_y-clause-stands c =
@@ -37,13 +37,18 @@ returns-then-len-start_of_y-clause-stands c =
     let a = c.start_of_x.result in
     let xs = c.as_slice.result.now in
     let x : take (length xs - a) (drop a xs) ≡ drop (copies_of t) (history t) = rest_is a (copies_of t) xs (history t) c.start_of_x.ensures c.as_slice.ensures.coins in
-    let before = left_fixed _ _ _ _ _ _ _ _ _ _ _ _ _ c.requires all in
+    let before = left_fixed _ _ _ _ _ _ _ _ _ _ _ _ _ c.requires.parts all in
     let shares = shares_held t c.size.result c.view.result c.size.ensures.value c.view.ensures.meant in
     let place : List ℕ = take (copies_of t) (history t) in
     let after =
-    c.start_right-at_x.ensures.tables (claim_held t) (values_held t) place shares
-    (subst (λ (d : List ℕ). LeftTables modulus (layer_seen t.layer) (below_of t) (claim_held t) (values_held t) place d 0 t.factor c.args.tables.now.v.now c.args.tables.now.w.now c.args.tables.now.h.now c.args.tables.now.j.now)
+    c.start_right-at_x.ensures (claim_held t) (values_held t) place shares
+    (subst (λ (d : List ℕ). LeftTables modulus (layer_seen t.layer) (below_of t) (claim_held t) (values_held t) place d 0 t.factor c.args.v.now c.args.w.now c.args.h.now c.args.j.now)
     (sym x) before) in
-    parts_at_right _ _ _ _ _ _ _ _ _ _ _ _ _ all
-    (subst (λ (d : List ℕ). RightTables modulus (layer_seen t.layer) (below_of t) (claim_held t) (values_held t) place d [] (below_of t) c.start_right-at_x.result
-    c.start_right-at_x.new.self.v.now c.start_right-at_x.new.self.h.now c.start_right-at_x.new.self.j.now) x after)
+    record {
+      rooms = record { room_v = omega arith; room_w = omega arith; room_h = omega arith };
+      room_j = omega arith;
+      parts =
+          parts_at_right _ _ _ _ _ _ _ _ _ _ _ _ _ all
+          (subst (λ (d : List ℕ). RightTables modulus (layer_seen t.layer) (below_of t) (claim_held t) (values_held t) place d [] (below_of t) c.start_right-at_x.result
+          c.start_right-at_x.new.v c.start_right-at_x.new.h c.start_right-at_x.new.j) x after);
+    }

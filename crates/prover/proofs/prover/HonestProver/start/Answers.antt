@@ -30,4 +30,8 @@ returns c =
     let n = c.start_of_x.result in
     let point : take (copies_of t) t.copy ≡ take (n - 0) t.copy = ap (λ (k : ℕ). take k t.copy) (sym (sub-zero n ∙ c.start_of_x.ensures)) in
     let shares = shares_held t c.size.result c.view.result c.size.ensures.value c.view.ensures.meant in
-    begun t c.start_copies.new.self c.requires (c.start_copies.ensures.tables (claim_held t) point shares)
+    record {
+      rooms = record { room_v = omega arith; room_w = omega arith; room_h = omega arith };
+      room_j = omega arith;
+      parts = begun t c.start_copies.new.v c.start_copies.new.w c.start_copies.new.h c.args.j.now c.requires.none (c.start_copies.ensures (claim_held t) point shares);
+    }
