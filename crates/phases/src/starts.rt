@@ -59,12 +59,12 @@ pub fn start_left<M: Modular>(
     let factor = h[0];
     let values = &v[0..below];
     let weights = &mut w[0..gates];
-    let h = &mut h[0..below];
-    let j = &mut j[0..below];
+    let front_h = &mut h[0..below];
+    let front_j = &mut j[0..below];
     scale::<M>(weights, factor);
-    h.fill(0);
-    j.fill(0);
-    gather_left::<M>(layer, weights, values, h, j);
+    front_h.fill(0);
+    front_j.fill(0);
+    gather_left::<M>(layer, weights, values, front_h, front_j);
     w[0..below].copy_from_slice(values);
     factor
 }
