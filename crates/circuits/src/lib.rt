@@ -14,5 +14,6 @@ pub use checks::{check_counts, check_reduced};
 pub use examples::examples_stand;
 pub use gate::{Gate, Kind, UnknownKind};
 pub use limits::MOST_PLACES;
+pub use refusals::Refusal;
 pub use shape::power;
 pub use view::{CircuitView, Gates, LayerView, LayersView};

@@ -1,6 +1,6 @@
 // The whole circuit: its numbers, and its layers from the outputs' one down.
-// A check of the words is the only way to a view of one.
-ghost use Rattle.std.specs.Prelude.{◌≡◌, ◌+◌, ◌^◌, ◌≤◌, IfOk};
+// A view is made of words that a check has let pass, or that are known to be those of a circuit.
+ghost use Rattle.std.specs.Prelude.{◌≡◌, ◌+◌, ◌^◌, ◌≤◌, true, IfOk};
 ghost use Rattle.circuits.specs.Circuit.{output_size};
 ghost use Rattle.refusals.specs.Refusals.{RefusedUnless};
 ghost use Rattle.circuits.specs.Views.{words_seen, circuit_seen, layers_seen, copies_above, inputs_below};
@@ -33,13 +33,21 @@ fn is_circuit(words: &[u32]) -> bool
 }
 
 impl<'a> CircuitView<'a> {
+    // Of words that are known to be those of a lawful circuit, which are not looked at again.
+    pub fn new(words: &'a [u32]) -> CircuitView<'a>
+        requires { is_circuit words.now ≡ true }
+        ensures { words_seen result ≡ words.now }
+    {
+        CircuitView { words }
+    }
+
     // Of the words of a lawful circuit; all others are refused.
     pub fn check(words: &'a [u32]) -> Result<CircuitView<'a>, Refusal>
         ensures refused { RefusedUnless (is_circuit words.now) Refusal.NoCircuit result }
         ensures seen { IfOk result (λ view. words_seen view ≡ words.now) }
     {
         if is_circuit(words) {
-            Ok(CircuitView { words })
+            Ok(CircuitView::new(words))
         } else {
             Err(Refusal::NoCircuit)
         }
