@@ -3,6 +3,7 @@ pub mod Drawing
 pub mod Judge
 pub mod Held
 pub mod House
+pub mod Known
 pub mod OneNumber
 pub mod Scanning
 pub mod Theorems

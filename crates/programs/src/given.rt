@@ -1,9 +1,13 @@
 // What `house` is given before the first coin: circuit and inputs, of which nothing is refused.
-// A check is the only way to it, and gives the first refusal that applies; with the first coins it makes the prover.
-ghost use Rattle.std.specs.Prelude.{◌≡◌, ◌+◌, ◌^◌, true, length};
+// A check gives the first refusal that applies, and who knows that none does needs no check; with the first coins it makes the prover.
+ghost use Rattle.std.specs.Prelude.{◌≡◌, ℕ, ◌+◌, ◌^◌, true, List, ◌++◌, length, take};
 ghost use Rattle.arithmetic.specs.Numbers.{modulo, all_reduced};
+ghost use Rattle.argument.specs.Argument.{first_coins};
+ghost use Rattle.argument.specs.Honest.{honest};
 ghost use Rattle.circuits.specs.Views.{circuit_seen};
-ghost use Rattle.circuits.specs.Words.{modulus};
+ghost use Rattle.circuits.specs.Words.{modulus, circuit_of};
+ghost use Rattle.programs.specs.Known.{IsGiven};
+ghost use Rattle.prover.specs.Provers.{Stands, speaks};
 
 use arithmetic::mersenne::Mersenne31;
 use circuits::{CircuitView, check_counts, check_reduced};
@@ -21,14 +25,21 @@ pub struct Given<'a> {
 }
 
 impl<'a> Given<'a> {
-    ghost use Rattle.std.specs.Prelude.{ℕ, ◌≤◌, List, ◌++◌, take, MatchResult, IfOk};
-    ghost use Rattle.argument.specs.Argument.{first_coins};
-    ghost use Rattle.argument.specs.Honest.{honest};
+    ghost use Rattle.std.specs.Prelude.{◌≤◌, MatchResult, IfOk};
     ghost use Rattle.circuits.specs.Circuit.{output_size};
-    ghost use Rattle.circuits.specs.Words.{circuit_of, run_verdict};
+    ghost use Rattle.circuits.specs.Views.{words_seen};
+    ghost use Rattle.circuits.specs.Words.{run_verdict};
     ghost use Rattle.programs.specs.Held.{circuit_given, inputs_given};
-    ghost use Rattle.prover.specs.Provers.{Stands, speaks};
     ghost use Rattle.refusals.specs.Refusals.{number_of};
+
+    // Of words of which it is known that nothing is refused. They are not looked at again.
+    pub fn new(circuit: CircuitView<'a>, inputs: &'a [u32]) -> Given<'a>
+        requires { IsGiven (words_seen circuit) inputs.now }
+        ensures circuit { circuit_given result ≡ words_seen circuit.entry }
+        ensures inputs { inputs_given result ≡ inputs.now }
+    {
+        Given { circuit, inputs }
+    }
 
     pub fn check(circuit: &'a [u32], inputs: &'a [u32]) -> Result<Given<'a>, Refusal>
         ensures given { IfOk result (λ given. (circuit_given given ≡ circuit.now) × (inputs_given given ≡ inputs.now)) }
@@ -37,10 +48,7 @@ impl<'a> Given<'a> {
         let view = CircuitView::check(circuit)?;
         check_counts(view, inputs.len(), view.output_count())?;
         check_reduced::<Mersenne31>(inputs)?;
-        Ok(Given {
-            circuit: view,
-            inputs,
-        })
+        Ok(Given::new(view, inputs))
     }
 
     // How many coins choose the outputs' point.
@@ -59,4 +67,19 @@ impl<'a> Given<'a> {
     {
         HonestProver::open(self.circuit, self.inputs, coins, tables)
     }
+}
+
+// The prover after the first coins, of words of which it is known that nothing is refused, in four tables that are lent.
+pub fn open_prover<'a>(
+    circuit: &'a [u32],
+    inputs: &'a [u32],
+    coins: &[u32],
+    tables: &mut Tables,
+) -> HonestProver<'a>
+    requires given { IsGiven circuit.now inputs.now }
+    requires coins { (length coins.now ≡ first_coins (circuit_of circuit.now)) × (all_reduced (modulo modulus) coins.now ≡ true) }
+    ensures says { (later : List ℕ) → speaks result later ≡ honest (modulo modulus) (circuit_of circuit.now) inputs.now (take (first_coins (circuit_of circuit.now)) coins.now ++ later) }
+    ensures stands { Stands 0 0 result tables.new }
+{
+    Given::new(CircuitView::new(circuit), inputs).open(coins, tables)
 }
