@@ -41,22 +41,43 @@ pub past_hash : (g : Gap) (c : ℕ) (rest : List ℕ) → g ≡ First → c ≡ 
 unfolding read_from
 past_hash g c rest is e = rw (is, ne_eqb c 10 (λ k. omega arith), eq-eqb c 35 e) refl
 
+pub past_space : (g : Gap) (c : ℕ) (rest : List ℕ) → (g ≡ Comment → ⊥) → is_space c ≡ true → read_from (gap_place g) (c ∷ rest) ≡ read_from between rest
+unfolding read_from
+past_space First c rest inside s = rw (space_no_line_end c s, space_no_hash c s, s) refl
+past_space Between c rest inside s = rw (space_no_line_end c s, s) refl
+past_space Comment c rest inside s = absurd (inside refl)
+
+-- the first byte of a word, which is so wherever in its line it stands
+pub past_word : (g : Gap) (c : ℕ) → (c ≡ 10 → ⊥) → (g ≡ Comment → ⊥) → (g ≡ First → c ≡ 35 → ⊥) → is_space c ≡ false → Past g c None
+unfolding read_from
+past_word First c line inside hash s = (rw (ne_eqb c 10 line, s) refl, λ rest. rw (ne_eqb c 10 line, ne_eqb c 35 (hash refl), s) refl)
+past_word Between c line inside hash s = (rw (ne_eqb c 10 line, s) refl, λ rest. refl)
+past_word Comment c line inside hash s = absurd (inside refl)
+
 -- a space, or the first byte of a word
 pub past_other : (g : Gap) (c : ℕ) → (c ≡ 10 → ⊥) → (g ≡ Comment → ⊥) → (g ≡ First → c ≡ 35 → ⊥) → Past g c (then_some (is_space c) Between)
-unfolding read_from
-past_other First c line inside hash =
-    by_test (is_space c)
-    (λ s. rw s (λ rest. rw (ne_eqb c 10 line, ne_eqb c 35 (hash refl), s) refl))
-    (λ s. rw s (rw (ne_eqb c 10 line, s) refl, λ rest. rw (ne_eqb c 10 line, ne_eqb c 35 (hash refl), s) refl))
-past_other Between c line inside hash =
-    by_test (is_space c) (λ s. rw s (λ rest. rw (ne_eqb c 10 line, s) refl)) (λ s. rw s (rw (ne_eqb c 10 line, s) refl, λ rest. refl))
-past_other Comment c line inside hash = absurd (inside refl)
+past_other g c line inside hash =
+    by_test (is_space c) (λ s. rw s (λ rest. past_space g c rest inside s)) (λ s. rw s (past_word g c line inside hash s))
 
 pub gaps_alone : (g : Gap) (text : List ℕ) (i : ℕ) → length text ≤ i → read_from (gap_place g) (drop i text) ≡ read_from first text → read_from between (drop (length text) text) ≡ read_from first text
 unfolding read_from
 gaps_alone First text i end so = rw (drop_all (length text) text (omega arith)) (rw (drop_all i text end) at so)
 gaps_alone Between text i end so = rw (drop_all (length text) text (omega arith)) (rw (drop_all i text end) at so)
 gaps_alone Comment text i end so = rw (drop_all (length text) text (omega arith)) (rw (drop_all i text end) at so)
+
+-- ---- comments
+pub comment_goes_on : (text : List ℕ) (i : ℕ) → i < length text → (get_or text i 0 ≡ 10 → ⊥) → read_from comment (drop (i + 1) text) ≡ read_from comment (drop i text)
+unfolding read_from
+comment_goes_on text i h other =
+    let e : is_line_end (get_or text i 0) ≡ false = ne_eqb (get_or text i 0) 10 other in rw (drop_more text i 0 h, e) refl
+
+pub comment_ends : (text : List ℕ) (i : ℕ) → (i < length text → get_or text i 0 ≡ 10) → read_from between (drop i text) ≡ read_from comment (drop i text)
+unfolding read_from
+comment_ends text i stops =
+    ⊎_elim
+    (λ (h : i < length text). let e : is_line_end (get_or text i 0) ≡ true = eq-eqb (get_or text i 0) 10 (stops h) in rw (drop_more text i 0 h, e) refl)
+    (λ (h : length text ≤ i). rw (drop_all i text h) refl)
+    (cases_lt i (length text))
 
 -- ---- words
 pub word_begins : (text : List ℕ) (i : ℕ) → i < length text → is_gap (get_or text i 0) ≡ false → read_from (word 0) (drop i text) ≡ read_from between (drop i text)

@@ -20,8 +20,10 @@ impl Gap {
         match self {
             _ if byte == LINE_END => Some(Gap::First),
             Gap::Comment => Some(Gap::Comment),
+            // before the #, as by far the most bytes between words are spaces
+            _ if is_space(byte) => Some(Gap::Between),
             Gap::First if byte == HASH => Some(Gap::Comment),
-            _ => is_space(byte).then_some(Gap::Between),
+            _ => None,
         }
     }
 }

@@ -1,13 +1,26 @@
 // Where words begin and end in a text, and the number that a word writes.
 // What is left of a text is pinned by the machine that goes over it byte by byte.
 ghost use Rattle.std.specs.Prelude.{◌≡◌, ◌<◌, ◌≤◌, false, length, drop, None, MatchResult, slice_index};
-ghost use Rattle.texts.specs.Machine.{read_from, first, between, with};
+ghost use Rattle.texts.specs.Machine.{read_from, first, between, comment, with};
 ghost use Rattle.texts.specs.Texts.{is_gap};
 ghost use Rattle.texts.specs.declared.error.TextError.TheVariants.{NoNumber};
 
-use crate::digits::{append_digit, is_digit, is_gap};
+use crate::digits::{LINE_END, append_digit, is_digit, is_gap};
 use crate::error::TextError;
 use crate::gap::Gap;
+
+// The place of the line end that ends the comment in which a text begins, or the end of the text.
+fn comment_end(text: &[u8]) -> usize
+    ensures within { result ≤ length text.now }
+    ensures same { read_from between (drop result text.now) ≡ read_from comment text.now }
+{
+    for (at, &byte) in text.iter().enumerate() {
+        if byte == LINE_END {
+            return at;
+        }
+    }
+    text.len()
+}
 
 // The place where the next word begins, past gaps and comments, or the end of the text.
 pub fn word_start(text: &[u8]) -> usize
@@ -16,13 +29,22 @@ pub fn word_start(text: &[u8]) -> usize
     ensures same { read_from between (drop result text.now) ≡ read_from first text.now }
 {
     let mut gap = Gap::First;
-    for (at, &byte) in text.iter().enumerate() {
-        let Some(after) = gap.past(byte) else {
-            return at;
-        };
-        gap = after;
+    let mut at = 0;
+    while at < text.len() {
+        match gap.past(text[at]) {
+            None => return at,
+            // A comment's bytes are looked at for its end alone: by `past` a long one takes half as long again.
+            Some(Gap::Comment) => {
+                at += 1 + comment_end(&text[at + 1..]);
+                gap = Gap::Between;
+            }
+            Some(after) => {
+                at += 1;
+                gap = after;
+            }
+        }
     }
-    text.len()
+    at
 }
 
 // The number that a text's first word writes, and the place where the word ends.
