@@ -10,7 +10,12 @@ pub fn cubics_stand()
     ensures thrice { AgreeAtMostThrice }
 {}
 
-// 2^31 - 1 is whole, so that all that is promised for whole moduli holds of it; and so are the moduli of examples.
+// 2^31 - 1 is whole, so that all that is promised for whole moduli holds of it.
+pub fn mersenne_stands()
+    ensures { WholeMersenne31 }
+{}
+
+// The same; and so are the moduli of examples.
 pub fn moduli_stand()
     ensures program { WholeMersenne31 }
     ensures examples { WholeExamples }

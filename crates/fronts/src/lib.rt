@@ -2,4 +2,5 @@
 // Each takes one pass over a table or over the gates.
 #![tactic(auto)]
 
+pub mod fronts;
 pub mod gather;

@@ -22,6 +22,9 @@ pub record Measuring (all rest : LayersView) (words coins : ℕ) : Type 0 where
   pub words_limit : words + 130 * length (layers_seen rest) ≤ 130 * length (layers_seen all)
   pub coins_limit : coins + 33 * length (layers_seen rest) ≤ 33 * length (layers_seen all)
 
+pub measuring_none : (all : LayersView) → Measuring all all 0 0
+measuring_none all = record { words_are = omega arith; coins_are = omega arith; words_limit = omega arith; coins_limit = omega arith }
+
 pub measuring_more :
     {all rest : LayersView} {words coins : ℕ} → Measuring all rest words coins → (below : LayersView) (n : ℕ) →
     0 < length (layers_seen rest) → layers_seen below ≡ drop 1 (layers_seen rest) → copies_above below ≡ copies_above rest →

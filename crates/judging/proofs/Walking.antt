@@ -129,6 +129,10 @@ pub record Walking (vs : List ℕ) (s : Stand ℕ) (ws coins said drawn : List �
   pub reduced : all_reduced numbers drawn ≡ true
   pub fresh : length t.point ≡ 0
 
+pub walking_none : (vs : List ℕ) (s : Stand ℕ) (ws coins : List ℕ) → length s.point ≡ 0 → length ws ≡ words_from s → length coins ≡ coins_from s →
+    all_reduced numbers coins ≡ true → Walking vs s ws coins ws coins s
+walking_none vs s ws coins e ew ec er = record { resumed = refl; words = ew; coins_to_come = ec; reduced = er; fresh = e }
+
 -- the words and coins of this layer are there
 pub walking_room : {vs : List ℕ} {s : Stand ℕ} {ws coins said drawn : List ℕ} {t : Stand ℕ} → Walking vs s ws coins said drawn t →
     0 < length t.layers → (4 * variables_of t + 2 ≤ length said) × (variables_of t + 1 ≤ length drawn)

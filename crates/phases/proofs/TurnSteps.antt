@@ -47,7 +47,7 @@ module _ (p : ℕ) (several : 1 < p) (count r : ℕ) (words new rest : List ℕ)
   pub halved_reduced : T (all_reduced (modulo p) new) → T (all_reduced (modulo p) (take (count / 2) (new ++ rest)))
   halved_reduced t = subst (λ (l : List ℕ). T (all_reduced (modulo p) l)) (sym (take-append-le (count / 2) new rest inside)) (reduced_take p (count / 2) new t)
 
-fixed_turn : (p n count r : ℕ) (old new : List ℕ) → 0 < n → count ≡ 2 ^ n →
+pub fixed_turn : (p n count r : ℕ) (old new : List ℕ) → 0 < n → count ≡ 2 ^ n →
     take (count / 2) new ≡ fix_first (modulo p) r (take count old) → T (all_reduced (modulo p) (take (count / 2) new)) → Fixed p (n - 1) r old new
 fixed_turn p n count r old new h e front reduced =
     let half : count / 2 ≡ 2 ^ (n - 1) = ap (λ (k : ℕ). k / 2) e ∙ half_of n h in

@@ -1,5 +1,6 @@
 pub mod Telling
 pub mod PartSteps
+pub mod PartsPassed
 pub mod ProverSteps
 pub mod ProverSays
 pub mod ProverHears

@@ -31,6 +31,10 @@ line_four p h a b below-a below-b =
     let same-b = mod-eq_of_lt below-b in
     cc (at0, at1, at2, at3, same-a, same-b)
 
+-- the four values that a place gives
+abbrev pub PlaceLine : ℕ → ℕ → List ℕ → ℕ → List ℕ → Type 0
+PlaceLine p half xs i s = s ≡ four_values (modulo p) (λ t. on_line (modulo p) t (get_or xs i 0) (get_or xs (half + i) 0))
+
 -- The places of the lower half that are done, with their partners: what is left of three tables, and the sums over what is done.
 pub record PlacesPassed (p : ℕ) (v h j low-v high-v low-h high-h low-j high-j s : List ℕ) : Type 0 where
   pub done : ℕ

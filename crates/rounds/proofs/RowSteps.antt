@@ -20,6 +20,11 @@ use Rattle.rounds.proofs.FourSteps.{four_same, four_zeros}
 use Rattle.rounds.proofs.Halves.{HalvesLeft, halves_more, RowsLeft, rows_left_more}
 use Rattle.rounds.proofs.CopyRound.{copy_round}
 
+-- a line by its four values
+pub four_line : (p a b : ℕ) (s : List ℕ) → s ≡ four_values (modulo p) (λ t. on_line (modulo p) t a b) → T (all_reduced (modulo p) s) →
+    FourOf p (λ t. on_line (modulo p) t a b) s
+four_line p a b s e h = record { values = e; below = h }
+
 -- ---- one gate more, and one row more
 -- Gates from the last to the first: the weights that are left, those that are done, and the sums over the latter's gates.
 pub record RowPassed (p : ℕ) (gs : List Gate) (ws low high left s : List ℕ) : Type 0 where
