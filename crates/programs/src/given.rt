@@ -7,12 +7,16 @@ ghost use Rattle.argument.specs.Honest.{honest};
 ghost use Rattle.circuits.specs.Views.{circuit_seen};
 ghost use Rattle.circuits.specs.Words.{modulus, circuit_of};
 ghost use Rattle.programs.specs.Known.{IsGiven};
-ghost use Rattle.prover.specs.Provers.{Stands, speaks};
+ghost use Rattle.phases.specs.References.{SameReferences};
+ghost use Rattle.phases.specs.Standing.{Rooms};
+ghost use Rattle.prover.specs.Provers.{Stands, StandsIn, speaks};
 
 use arithmetic::mersenne::Mersenne31;
 use circuits::{CircuitView, check_counts, check_reduced};
 use claims::opening::first_coins;
 use phases::quarters::Tables;
+use prover::hearing::begin;
+use prover::opening::open;
 use prover::prover::HonestProver;
 use refusals::Refusal;
 
@@ -64,6 +68,7 @@ impl<'a> Given<'a> {
         requires coins { (length coins.now ≡ first_coins (circuit_of (circuit_given self))) × (all_reduced (modulo modulus) coins.now ≡ true) }
         ensures says { (later : List ℕ) → speaks result later ≡ honest (modulo modulus) (circuit_of (circuit_given self.entry)) (inputs_given self.entry) (take (first_coins (circuit_of (circuit_given self.entry))) coins.now ++ later) }
         ensures stands { Stands 0 0 result tables.new }
+        ensures same_references { SameReferences tables.old tables.new }
     {
         HonestProver::open(self.circuit, self.inputs, coins, tables)
     }
@@ -74,12 +79,16 @@ pub fn open_prover<'a>(
     circuit: &'a [u32],
     inputs: &'a [u32],
     coins: &[u32],
-    tables: &mut Tables,
+    v: &mut [u32],
+    w: &mut [u32],
+    h: &mut [u32],
+    j: &mut [u32],
 ) -> HonestProver<'a>
     requires given { IsGiven circuit.now inputs.now }
+    requires rooms { (Rooms v.old w.old h.old) × (length j.old ≡ 65536) }
     requires coins { (length coins.now ≡ first_coins (circuit_of circuit.now)) × (all_reduced (modulo modulus) coins.now ≡ true) }
     ensures says { (later : List ℕ) → speaks result later ≡ honest (modulo modulus) (circuit_of circuit.now) inputs.now (take (first_coins (circuit_of circuit.now)) coins.now ++ later) }
-    ensures stands { Stands 0 0 result tables.new }
+    ensures stands { StandsIn 0 0 result v.new w.new h.new j.new }
 {
-    Given::new(CircuitView::new(circuit), inputs).open(coins, tables)
+    begin(open(CircuitView::new(circuit), inputs, coins), v, w, h, j)
 }
