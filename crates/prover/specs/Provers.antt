@@ -73,9 +73,12 @@ pub record StandsIn (i q : ℕ) (t : HonestProver) (v w h j : List ℕ) : Type 0
   pub room_j : length j ≡ 65536
   pub parts : PartsAt i q t (history t) v w h j
 
--- the same of the struct of the four, which has their lengths
+-- the same of the struct of the four, which has their lengths: at these coins of the layer, and at those so far
+abbrev pub StandsAt : ℕ → ℕ → HonestProver → List ℕ → Tables → Type 0
+StandsAt i q t coins b = PartsAt i q t coins b.v.now b.w.now b.h.now b.j.now
+
 abbrev pub Stands : ℕ → ℕ → HonestProver → Tables → Type 0
-Stands i q t b = PartsAt i q t (history t) b.v.now b.w.now b.h.now b.j.now
+Stands i q t b = StandsAt i q t (history t) b
 
 -- what it says from here on, as a function of the coins to come
 abbrev pub speaks : HonestProver → Prover ℕ
