@@ -4,8 +4,8 @@ ghost use Rattle.std.specs.Prelude.{◌≡◌, ◌≤◌, length, MatchResult};
 ghost use Rattle.refusals.specs.Refusals.{RefusedUnless, number_of};
 ghost use Rattle.circuits.specs.Views.{words_seen, circuit_seen, layers_seen, copies_above, inputs_below};
 ghost use Rattle.argument.specs.Argument.{layer_coins};
-ghost use Rattle.argument.specs.Transcript.{layer_words};
-ghost use Rattle.judging.specs.Checks.{lengths_fit, checked, judged_so};
+ghost use Rattle.argument.specs.Transcript.{layer_words, judged};
+ghost use Rattle.judging.specs.Checks.{lengths_fit, Checked, checked, judged_so};
 
 use crate::call::Transcript;
 use arithmetic::mersenne::Mersenne31;
@@ -63,4 +63,25 @@ impl<'a> Transcript<'a> {
         check_reduced::<Mersenne31>(self.coins)?;
         Ok(view)
     }
+}
+
+// The same of words that are lent one by one.
+pub fn check_all(
+    circuit: &[u32],
+    inputs: &[u32],
+    claimed: &[u32],
+    messages: &[u32],
+    coins: &[u32],
+) -> Result<(), Refusal>
+    ensures { MatchResult result (λ _. Checked circuit.now inputs.now claimed.now messages.now coins.now) (λ e. number_of e ≡ judged circuit.now inputs.now claimed.now messages.now coins.now) }
+{
+    let transcript = Transcript {
+        circuit,
+        inputs,
+        claimed,
+        messages,
+        coins,
+    };
+    transcript.check()?;
+    Ok(())
 }

@@ -1,15 +1,16 @@
 -- The starts of a layer's parts, from what the calls leave in fronts of the quarters, whatever lies behind these.
 -- The checker has a front's end as `count - 0`.
-use Rattle.std.proofs.Common.{◌≡◌, ℕ, ◌*◌, ◌^◌, ◌<◌, ◌≤◌, T, List, [], ◌++◌, length, get_or, take, replicate, sym, ap, ◌∙◌, subst, ap₂, arith}
+use Rattle.std.proofs.Common.{◌≡◌, ℕ, zero, suc, ◌*◌, ◌^◌, ◌<◌, ◌≤◌, T, ltb, lt→ltb, List, [], ◌++◌, length, get_or, take, replicate, sym, ap, ◌∙◌, subst, ap₂, arith}
 use Rattle.std.proofs.lemmas.List.{take_all, take_at, length-take-le}
 use Rattle.arithmetic.specs.Numbers.{Numbers, modulo, all_reduced}
+use Rattle.arithmetic.proofs.Truth.{and_both}
 use Rattle.tables.proofs.EqSteps.{eq_table-length}
 use Rattle.tables.specs.InPlace.{eq_table}
 use Rattle.circuits.specs.Circuit.{Layer}
 use Rattle.argument.specs.Claims.{Share, Claim}
 use Rattle.argument.proofs.Copies.{Reads}
 use Rattle.claims.specs.Sums.{share_weight}
-use Rattle.fronts.proofs.WeightLists.{weights_from, front_reduced, zeros_reduced}
+use Rattle.fronts.proofs.WeightLists.{weights_from, front_reduced}
 use Rattle.fronts.specs.Gathers.{weights, layer_weights, scaled, weights_at, gather_h, gather_j, gather_hy, gather_jy}
 use Rattle.phases.specs.Standing.{CopyTables, LeftTables, RightTables}
 use Rattle.phases.proofs.Starting.{copies_started, left_started, right_started}
@@ -18,9 +19,14 @@ use Rattle.phases.proofs.Starting.{copies_started, left_started, right_started}
 pub reduced_end : (p m n : ℕ) (xs : List ℕ) → m ≡ n → T (all_reduced (modulo p) (take m xs)) → T (all_reduced (modulo p) (take n xs))
 reduced_end p m n xs e t = subst (λ (k : ℕ). T (all_reduced (modulo p) (take k xs))) e t
 
--- a table that was filled with zeros
-pub filled_reduced : (p n : ℕ) (xs : List ℕ) → 0 < p → xs ≡ replicate n 0 → T (all_reduced (modulo p) xs)
-filled_reduced p n xs positive e = subst (λ (ys : List ℕ). T (all_reduced (modulo p) ys)) (sym e) (zeros_reduced p positive n)
+-- a table that was filled with a reduced number
+same_reduced : (p a : ℕ) → a < p → (n : ℕ) → T (all_reduced (modulo p) (replicate n a))
+unfolding all_reduced
+same_reduced p a h zero = tt
+same_reduced p a h (suc n) = and_both (ltb a p) (all_reduced (modulo p) (replicate n a)) (lt→ltb a p h) (same_reduced p a h n)
+
+pub filled_reduced : (p n a : ℕ) (xs : List ℕ) → xs ≡ replicate n a → a < p → T (all_reduced (modulo p) xs)
+filled_reduced p n a xs e h = subst (λ (ys : List ℕ). T (all_reduced (modulo p) ys)) (sym e) (same_reduced p a h n)
 
 -- the weights of a layer, from what stands at each place
 pub layer_weighed : (p : ℕ) (l : Layer) (ss : List (Share ℕ)) (size : ℕ) (ws : List ℕ) → size ≡ l.size → length l.gates ≡ 2 ^ l.size → length ws ≡ 2 ^ l.size →

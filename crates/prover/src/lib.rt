@@ -9,3 +9,4 @@ pub mod opening;
 pub mod prover;
 pub mod saying;
 pub mod settling;
+pub mod shares;

@@ -5,6 +5,7 @@ ghost use Rattle.arithmetic.specs.Numbers.{modulo, all_reduced};
 ghost use Rattle.argument.specs.Transcript.{answers_along};
 ghost use Rattle.circuits.specs.Words.{modulus};
 ghost use Rattle.claims.specs.Messages.{numbers_of};
+ghost use Rattle.phases.specs.References.{SameReferences};
 ghost use Rattle.prover.specs.Provers.{Stands, speaks, coins_left, words_left};
 
 use claims::message::Message;
@@ -30,6 +31,7 @@ pub fn answer_all(mut prover: HonestProver, coins: &[u32], room: &mut [u32], tab
     requires coins { T (all_reduced (modulo modulus) coins.now) }
     ensures room { room.new ≡ answers_along (length coins.now) (speaks prover.entry) 0 coins.now }
     ensures reduced { T (all_reduced (modulo modulus) room.new) }
+    ensures same_references { SameReferences tables.old tables.new }
 {
     let Some((_, before)) = coins.split_last() else {
         return;

@@ -13,9 +13,11 @@ use Rattle.texts.proofs.Meaning.{numbers_of_is}
 
 -- a is where the reader stands, and s how far from there the next word begins
 module _ (text : List ℕ) (a s : ℕ) (found : read_from between (drop s (drop a text)) ≡ read_from first (drop a text)) where
-  pub none_left : s ≡ length (drop a text) → numbers_of (drop a text) ≡ Some []
+  pub none_left : s ≡ length (drop a text) → (numbers_of (drop a text) ≡ Some []) × (drop s (drop a text) ≡ [])
   unfolding read_from
-  none_left end = numbers_of_is (drop a text) ∙ sym found ∙ ap (read_from between) (drop_all s (drop a text) (omega arith))
+  none_left end =
+      let nothing = drop_all s (drop a text) (omega arith) in
+      (numbers_of_is (drop a text) ∙ sym found ∙ ap (read_from between) nothing, nothing)
 
   pub none_read : read_from between (drop s (drop a text)) ≡ None → numbers_of (drop a text) ≡ None
   none_read is = numbers_of_is (drop a text) ∙ sym found ∙ is

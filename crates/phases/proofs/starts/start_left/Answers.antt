@@ -11,8 +11,7 @@ use Rattle.phases.proofs.starts.start_left.Goals as goal
 pub gather_left-requires-clause-reduced : goal.gather_left-requires-clause-reduced
 gather_left-requires-clause-reduced g c =
     let p = g.M.Modular.modulus in
-    let positive : 0 < p = omega (arith, g.met.M.Modular.above) in
-    (filled_reduced p _ _ positive (c.fill.ensures.after (λ y e. e)), filled_reduced p _ _ positive (c.fill-2.ensures.after (λ y e. e)))
+    (filled_reduced p _ _ _ (c.fill.ensures.after (λ y e. e)) (omega (arith, g.met.M.Modular.above)), filled_reduced p _ _ _ (c.fill-2.ensures.after (λ y e. e)) (omega (arith, g.met.M.Modular.above)))
 
 pub returns : goal.returns
 returns g c k X point tables =

@@ -2,6 +2,7 @@
 use Rattle.std.proofs.Common.{◌≡◌, ◌^◌, ◌<◌, length, sym, ap, ◌∙◌, subst, ⊎_elim, arith}
 use Rattle.std.specs.Iterator.Adapters.{rev_source, zip_first, zip_second}
 use Rattle.std.specs.Slice.Iter.{iter_rest}
+use Rattle.std.proofs.lemmas.Grind.{common_steps}
 use Rattle.std.proofs.lemmas.List.{nil_from_length, take_all}
 use Rattle.circuits.proofs.GatesLeft.{gate_within}
 use Rattle.circuits.proofs.Parts.{Within}
@@ -16,7 +17,7 @@ loop-gate-init g c =
     let gs = gates_seen c.args.layer in
     let many : length gs ≡ length c.args.weights.now = omega (arith, length-gates_of (2 ^ size_seen c.args.layer) c.args.layer.words.now) in
     let first : gates_left (rev_source (zip_first c.into_iter-gate-iterator.result)) ≡ gs = cc in
-    let second : iter_rest (rev_source (zip_second c.into_iter-gate-iterator.result)) ≡ c.args.weights.now = cc in
+    let second : iter_rest (rev_source (zip_second c.into_iter-gate-iterator.result)) ≡ c.args.weights.now = grind (arith, common_steps) in
     record {
       gates = first ∙ sym (take_all _ gs (omega (arith, ap length second, many)));
       passed = passed_none g.M.Modular.modulus positive gs c.args.weights.now c.args.low.now c.args.high.now _ second;

@@ -8,7 +8,7 @@ use Rattle.texts.proofs.reader.Reader.next_number.Goals as goal
 
 pub returns-then-start-rest : goal.returns-then-start-rest
 returns-then-start-rest c = (
-  none_left c.args.self.now.text.now c.args.self.now.at c.word_start-start.result (simp take_rest at c.word_start-start.ensures.same) (simp take_rest at c.if-start-rest.true),
+  (none_left c.args.self.now.text.now c.args.self.now.at c.word_start-start.result (simp take_rest at c.word_start-start.ensures.same) (simp take_rest at c.if-start-rest.true)).0,
   drop-length c.args.self.now.text.now,
 )
 
