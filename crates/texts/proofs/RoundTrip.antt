@@ -31,6 +31,9 @@ digit_no_line_end c d = ne_eqb c 10 (λ e. omega (arith, (digit_in c d).0))
 pub digit_no_space : (c : ℕ) → Digit c → is_space c ≡ false
 digit_no_space c d = or_from (eqb c 32) (eqb c 13) (ne_eqb c 32 (λ e. omega (arith, (digit_in c d).0))) (ne_eqb c 13 (λ e. omega (arith, (digit_in c d).0)))
 
+pub digit_no_gap : (c : ℕ) → Digit c → is_gap c ≡ false
+digit_no_gap c d = or_from (is_line_end c) (is_space c) (digit_no_line_end c d) (digit_no_space c d)
+
 pub digit_no_hash : (c : ℕ) → Digit c → eqb c 35 ≡ false
 digit_no_hash c d = ne_eqb c 35 (λ e. omega (arith, (digit_in c d).0))
 

@@ -33,7 +33,7 @@ pub fn word_start(text: &[u8]) -> usize
     while at < text.len() {
         match gap.past(text[at]) {
             None => return at,
-            // A comment's bytes are looked at for its end alone: by `past` a long one takes half as long again.
+            // A comment's bytes are looked at for its end alone: by `past` a long one takes half as many instructions again.
             Some(Gap::Comment) => {
                 at += 1 + comment_end(&text[at + 1..]);
                 gap = Gap::Between;
@@ -57,13 +57,13 @@ pub fn read_word(text: &[u8]) -> Result<(u32, usize), TextError>
 {
     let mut number = 0;
     for (at, &byte) in text.iter().enumerate() {
-        if is_gap(byte) {
+        if is_digit(byte) {
+            number = append_digit(number, byte - b'0');
+        } else if is_gap(byte) {
             return Ok((number, at));
-        }
-        if !is_digit(byte) {
+        } else {
             return Err(TextError::NoNumber);
         }
-        number = append_digit(number, byte - b'0');
     }
     Ok((number, text.len()))
 }
