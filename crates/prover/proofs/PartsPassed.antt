@@ -1,6 +1,6 @@
 -- Where no part of the layer begins, the tables stand as they are for the part that goes on.
 -- And a coin more, in the words that hold the coins so far.
-use Rattle.std.proofs.Common.{◌≡◌, ℕ, ◌+◌, ◌*◌, ◌<◌, ◌≤◌, List, [], ◌∷◌, ◌++◌, length, take, set, arith}
+use Rattle.std.proofs.Common.{◌≡◌, ℕ, ◌+◌, ◌<◌, ◌≤◌, List, [], ◌∷◌, ◌++◌, length, take, set, arith}
 use Rattle.std.proofs.lemmas.List.{take_more_set}
 use Rattle.circuits.specs.Circuit.{Layer}
 use Rattle.circuits.specs.Views.{layer_seen}

@@ -16,7 +16,7 @@ use Rattle.claims.specs.Drawing.{coins_drawn}
 use Rattle.claims.specs.Meaning.{shares_meant}
 use Rattle.claims.specs.declared.claim.Shares.{Shares}
 use Rattle.phases.specs.Standing.{claim_on}
-use Rattle.prover.specs.Provers.{Alike, Heard, IsDue, Opened, Pushed, SameLayer, claim_held, copies_of, variables_of, history, answer_length, WithFactor, WithValue}
+use Rattle.prover.specs.Provers.{Alike, Heard, IsDue, Opened, Pushed, SameLayer, copies_of, variables_of, history, honest_at, answer_length, WithFactor, WithValue}
 use Rattle.prover.specs.declared.due.Due.{Due}
 use Rattle.prover.specs.declared.due.Due.TheVariants.{Copies, Left, Right, Values}
 use Rattle.prover.specs.declared.prover.HonestProver.{HonestProver}
@@ -40,14 +40,8 @@ layer_after t m r first then =
       shares = then.shares ∙ first.shares;
     }
 
--- what is said of it after these coins
-told : HonestProver → List ℕ → List ℕ
-told t coins =
-    honest_from (modulo modulus) (copies_of t) (layer_seen t.layer ∷ layers_seen t.rest) (inputs_below t.rest) t.inputs.now (claim_held t) coins
-
-told_same : (t r : HonestProver) → SameLayer t r → (coins : List ℕ) → told r coins ≡ told t coins
-unfolding told
-told_same t r same coins =
+honest_same : (t r : HonestProver) → SameLayer t r → (coins : List ℕ) → honest_at r coins ≡ honest_at t coins
+honest_same t r same coins =
     let N = modulo modulus in
     let given : r.inputs.now ≡ t.inputs.now = let inputs = same.inputs in cc in
     ap (λ (l : LayerView). honest_from N (copies_of r) (layer_seen l ∷ layers_seen r.rest) (inputs_below r.rest) r.inputs.now
@@ -77,20 +71,18 @@ module _ (t m r : HonestProver) (left : WithFactor t m) (right : WithValue m r) 
   coins_settled = ap coins_drawn (right.drawn ∙ left.drawn)
 
   pub alike_settled : Alike t r
-  unfolding told
   alike_settled =
       let same = layer_settled in
       let copies : copies_of r ≡ copies_of t = ap copies_above same.rest in
       let long : length (history r) ≡ length (history t) = ap length coins_settled in
       record {
-        says = λ later. told_same t r same (history r ++ later) ∙ ap (λ (d : List ℕ). told t (d ++ later)) coins_settled;
+        says = λ later. honest_same t r same (history r ++ later) ∙ ap (λ (d : List ℕ). honest_at t (d ++ later)) coins_settled;
         coins = omega (arith, rest_coins t r same, copies, same.below, long);
         words = omega (arith, rest_words t r same, copies, same.below, long);
       }
 
 -- ---- after a coin
 pub heard_pushed : (coin : ℕ) (t r : HonestProver) → length (history t) < variables_of t → Pushed coin t r → Heard coin t r
-unfolding told
 heard_pushed coin t r more p =
     let same = p.same in
     let copies : copies_of r ≡ copies_of t = ap copies_above same.rest in
@@ -98,8 +90,8 @@ heard_pushed coin t r more p =
     let four : answer_length t ≡ 4 = ap (λ (b : Bool). cond b 4 2) (lt-ltb (length (history t)) (variables_of t) more) in
     record {
       says = λ later.
-          told_same t r same (history r ++ later)
-          ∙ ap (told t) (ap (λ (d : List ℕ). d ++ later) p.coins ∙ append_assoc (history t) (coin ∷ []) later);
+          honest_same t r same (history r ++ later)
+          ∙ ap (honest_at t) (ap (λ (d : List ℕ). d ++ later) p.coins ∙ append_assoc (history t) (coin ∷ []) later);
       coins = omega (arith, rest_coins t r same, long, copies, same.below, more);
       words = omega (arith, rest_words t r same, long, copies, same.below, more, four);
     }

@@ -80,11 +80,15 @@ StandsAt i q t coins b = PartsAt i q t coins b.v.now b.w.now b.h.now b.j.now
 abbrev pub Stands : ℕ → ℕ → HonestProver → Tables → Type 0
 Stands i q t b = StandsAt i q t (history t) b
 
+-- what the honest prover of this layer and those below says, as a function of the coins from the layer's first on
+abbrev pub honest_at : HonestProver → Prover ℕ
+honest_at t coins =
+    honest_from (modulo modulus) (copies_of t) (layer_seen t.layer ∷ layers_seen t.rest) (inputs_below t.rest) t.inputs.now
+    (claim_held t) coins
+
 -- what it says from here on, as a function of the coins to come
 abbrev pub speaks : HonestProver → Prover ℕ
-speaks t later =
-    honest_from (modulo modulus) (copies_of t) (layer_seen t.layer ∷ layers_seen t.rest) (inputs_below t.rest) t.inputs.now
-    (claim_held t) (history t ++ later)
+speaks t later = honest_at t (history t ++ later)
 
 -- how many coins are still to come, and how many words of answers
 abbrev pub coins_left : HonestProver → ℕ
