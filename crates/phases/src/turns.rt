@@ -50,7 +50,7 @@ pub fn copy_coin<M: Modular>(layer: LayerView, left: u32, coin: u32, v: &mut [u3
 }
 
 // The four values for the first of `left` variables of a sum V H + J.
-// Apart from its caller, which answers two numbers or four: put into that, it adds up only two of the four sums at a time.
+// Not inlined: in a caller that answers two numbers or four, the compiler adds up only two of the four sums at a time.
 #[inline(never)]
 pub fn product_answer<M: Modular>(left: u32, v: &[u32], h: &[u32], j: &[u32]) -> [u32; 4]
     requires left { (0 < left) × (left ≤ 16) }

@@ -57,6 +57,7 @@ pub fn read_word(text: &[u8]) -> Result<(u32, usize), TextError>
 {
     let mut number = 0;
     for (at, &byte) in text.iter().enumerate() {
+        // before a gap, as by far the most bytes of a long word are digits
         if is_digit(byte) {
             number = append_digit(number, byte - b'0');
         } else if is_gap(byte) {
