@@ -48,6 +48,8 @@ pub fn word_start(text: &[u8]) -> usize
 }
 
 // The number that a text's first word writes, and the place where the word ends.
+// Not inlined: in a large function the jump out of the loop is a long one, and where it falls badly each digit takes longer.
+#[inline(never)]
 pub fn read_word(text: &[u8]) -> Result<(u32, usize), TextError>
     requires some { 0 < length text.now }
     requires begins { is_gap (slice_index text.now 0) ≡ false }
